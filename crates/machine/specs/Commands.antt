@@ -1,0 +1,23 @@
+-- The clears that a write to MCSR commands ("INTCSR and MCSR").
+use Prim.Native.Nat.{ℕ}
+use mathlib.Core.Bool.{Bool, _&&_}
+use Rattle.machine.specs.Words.{bit}
+use Rattle.machine.specs.Sides.{Side, pci, addon}
+use Rattle.machine.specs.Offsets.{mcsrAt}
+use Rattle.machine.specs.Access.{Access, writes}
+
+-- "Written ones": a side's control register is written with a one in bit k of its highest byte, that byte enabled
+abbrev pub commands : Side → ℕ → Access → Bool
+commands side k x = writes side mcsrAt x && bit (x .enables) 3 && bit (x .value) k
+
+-- 27 marks every mailbox byte empty
+abbrev pub clearsMarks : Access → Bool
+clearsMarks x = commands pci 27 x
+
+-- 26 empties the Add-On-to-PCI FIFO, 25 the other
+abbrev pub clearBit : Side → ℕ
+clearBit pci = 25
+clearBit addon = 26
+
+abbrev pub clearsFifo : Side → Access → Bool
+clearsFifo side x = commands pci (clearBit side) x

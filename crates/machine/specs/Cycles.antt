@@ -1,0 +1,80 @@
+-- "FIFOs and memory cycles": the address and count registers, and what a memory cycle moves.
+use Prim.Native.Nat.{ℕ, _+_, _-_, _%_, _^_, min}
+use mathlib.Core.Bool.{Bool, cond}
+use mathlib.Core.List.{List}
+use lib.Dec.{eqb, leb}
+use lib.ListN.{getD, set}
+use Rattle.machine.specs.Words.{bit, ones, shown, merged, written}
+use Rattle.machine.specs.Sides.{Side, pci, addon}
+use Rattle.machine.specs.State.{State, Lane, lane, held}
+use Rattle.machine.specs.Offsets.{addressAt, countAt}
+use Rattle.machine.specs.Access.{Access, writes, cycles}
+use Rattle.machine.specs.Fifos.{front, amount, fifoAfter}
+use Rattle.machine.specs.Window.{placeOf}
+use Rattle.machine.specs.Mcsr.{fourBit}
+
+-- "n the lesser of 4 and the count", in bytes
+abbrev pub moved : ℕ → ℕ
+moved count = min 4 count
+
+-- "the lowest n enables"
+unfoldable pub lowEnables : ℕ → ℕ
+lowEnables count = 2 ^ moved count - 1
+
+-- a cycle is ready with one word (held, or room for it), or four where MCSR asks for four
+abbrev pub needed : Side → ℕ → ℕ
+needed side mcsr = cond (bit mcsr (fourBit side)) 4 1
+
+unfoldable pub isReady : Side → State → Bool
+isReady side st = leb (needed side (st .mcsr)) (amount side (held side st))
+
+-- The word that a cycle answers: a write cycle the whole front word that it takes,
+-- a read cycle the memory word that it lets in, bytes n and up made zero (house).
+unfoldable pub cycleWord : Side → State → ℕ → List ℕ → ℕ
+cycleWord pci st start memory = let l = lane pci st in shown (getD memory (placeOf start (l .address)) 0) (lowEnables (l .count))
+cycleWord addon st start memory = front (held addon st)
+
+-- the memory after a write cycle: the lowest n bytes of the front word, the others of the memory word as they were
+unfoldable pub stored : State → ℕ → List ℕ → List ℕ
+stored st start memory =
+    let l = lane addon st in
+    let at = placeOf start (l .address) in
+    set memory at (merged (getD memory at 0) (front (l .words)) (lowEnables (l .count)))
+
+-- "Address registers keep bits 31 to 2, counts keep bits 25 to 0"
+abbrev pub addressKept : ℕ
+addressKept = ones 2 31
+
+abbrev pub countKept : ℕ
+countKept = ones 0 25
+
+-- "adds 4 to the address. The address after FFFFFFFC is 00000000"
+abbrev pub nextAddress : ℕ → ℕ
+nextAddress address = (address + 4) % 2 ^ 32
+
+-- "subtracts n from the count"
+abbrev pub countLeft : ℕ → ℕ
+countLeft count = count - moved count
+
+-- "A count that a cycle brings to zero"
+abbrev pub runsOut : ℕ → Bool
+runsOut count = eqb (countLeft count) 0
+
+unfoldable pub addressAfter : Side → Access → ℕ → ℕ
+addressAfter side x old =
+    cond (writes pci (addressAt side) x) (written addressKept old (x .value) (x .enables))
+    (cond (cycles side (x .kind)) (nextAddress old) old)
+
+unfoldable pub countAfter : Side → Access → ℕ → ℕ
+countAfter side x old =
+    cond (writes pci (countAt side) x) (written countKept old (x .value) (x .enables))
+    (cond (cycles side (x .kind)) (countLeft old) old)
+
+-- a lane after a done step, whose answer shows a word
+abbrev pub laneAfter : Side → Access → ℕ → Lane → Lane
+laneAfter side x answered l =
+    record {
+      words = fifoAfter side x answered (l .words);
+      address = addressAfter side x (l .address);
+      count = countAfter side x (l .count);
+    }

@@ -1,0 +1,72 @@
+-- INTCSR: what it keeps, the events, and the interrupt line ("INTCSR and MCSR").
+use Prim.Native.Nat.{ℕ, _+_, _/_, _%_, _^_}
+use mathlib.Core.Bool.{Bool, true, cond, _&&_, _||_}
+use lib.Dec.{eqb}
+use lib.Bits.{bitAnd, bitOr}
+use Rattle.machine.specs.Words.{bit, ones, shown, cleared, raised, written}
+use Rattle.machine.specs.Sides.{Side, pci, addon, host, card}
+use Rattle.machine.specs.State.{State, lane}
+use Rattle.machine.specs.Offsets.{intcsrAt}
+use Rattle.machine.specs.Access.{Access, Kind, reading, writing, cycle, chipReset, unknown}
+use Rattle.machine.specs.Mailboxes.{fillsByte, takesByte}
+use Rattle.machine.specs.Cycles.{runsOut}
+
+-- "keeps bits 0 to 4, 8 to 12, 14, 15"
+abbrev pub intcsrKept : ℕ
+intcsrKept = ones 0 4 + ones 8 12 + ones 14 15
+
+-- the bits that events set and a written one clears: 16 to 21
+abbrev pub intcsrEvents : ℕ
+intcsrEvents = ones 16 21
+
+abbrev pub intcsrHeld : ℕ
+intcsrHeld = intcsrKept + intcsrEvents
+
+-- the kept bits are written; "Writing one to any of bits 16 to 21 clears it", where its byte is enabled
+unfoldable pub intcsrWritten : ℕ → ℕ → ℕ → ℕ
+intcsrWritten old new enables = bitOr (written intcsrKept old new enables) (cleared (bitAnd old intcsrEvents) (shown new enables))
+
+-- The status bit of the byte that bits 3:2 (mailbox, 0 is mailbox 1) and 1:0 (byte) choose among the outgoing ones,
+-- and that 11:10 and 9:8 choose among the incoming ones.
+abbrev pub chosenOutgoing : ℕ → ℕ
+chosenOutgoing i = i % 2 ^ 4
+
+abbrev pub chosenIncoming : ℕ → ℕ
+chosenIncoming i = 16 + i / 2 ^ 8 % 2 ^ 4
+
+-- the outgoing event, enabled by bit 4: the chosen byte is read by the other side; the incoming one, enabled by 12: it is written by its owner
+unfoldable pub outgoingEvent : ℕ → Access → Bool
+outgoingEvent i x = bit i 4 && takesByte (chosenOutgoing i) x
+
+unfoldable pub incomingEvent : ℕ → Access → Bool
+incomingEvent i x = bit i 12 && fillsByte (chosenIncoming i) x
+
+-- the bit for a count that a cycle brings to zero: 18 for a write cycle, 19 for a read cycle
+abbrev pub countBit : Side → ℕ
+countBit pci = 19
+countBit addon = 18
+
+-- INTCSR after a done step of each kind: 16 by an Add-On read, 17 by an Add-On write, 18 and 19 by a cycle only
+unfoldable pub intcsrAfter : Kind → State → Access → ℕ
+intcsrAfter (reading host) st x = st .intcsr
+intcsrAfter (reading card) st x = raised (st .intcsr) (outgoingEvent (st .intcsr) x) 16
+intcsrAfter (writing host) st x = cond (eqb (x .offset) intcsrAt) (intcsrWritten (st .intcsr) (x .value) (x .enables)) (st .intcsr)
+intcsrAfter (writing card) st x = raised (st .intcsr) (incomingEvent (st .intcsr) x) 17
+intcsrAfter (cycle side) st x = raised (st .intcsr) (runsOut (lane side st .count)) (countBit side)
+intcsrAfter chipReset st x = st .intcsr
+intcsrAfter unknown st x = st .intcsr
+
+-- bits 20 and 21: an abort stands; code 13 sets 20, nothing sets 21 yet
+abbrev pub abortIn : ℕ → Bool
+abortIn i = bit i 20 || bit i 21
+
+unfoldable pub intcsrAborted : ℕ → ℕ
+intcsrAborted i = raised i true 20
+
+-- "the interrupt line: 16 with 4, 17 with 12, 18 with 14, 19 with 15, or 20, or 21"
+unfoldable pub lineOf : ℕ → Bool
+lineOf i = bit i 16 && bit i 4 || bit i 17 && bit i 12 || bit i 18 && bit i 14 || bit i 19 && bit i 15 || bit i 20 || bit i 21
+
+-- as it is read: what it holds, and the line at bit 23; all others are zero
+unfoldable pub intcsrRead : ℕ → ℕ
+intcsrRead i = raised i (lineOf i) 23

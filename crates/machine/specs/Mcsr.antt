@@ -1,0 +1,44 @@
+-- MCSR: what it keeps, what writing it commands, and its status ("INTCSR and MCSR").
+use Prim.Native.Nat.{ℕ, _+_, _*_, _^_}
+use mathlib.Core.Bool.{Bool, cond, _&&_}
+use mathlib.Core.List.{List}
+use lib.Dec.{eqb, leb}
+use lib.Bits.{bitOr}
+use lib.ListN.{length}
+use Rattle.machine.specs.Words.{bit, ones, flag, written}
+use Rattle.machine.specs.Sides.{Side, pci, addon}
+use Rattle.machine.specs.State.{State, lane, held}
+use Rattle.machine.specs.Offsets.{mcsrAt}
+use Rattle.machine.specs.Access.{Access, writes}
+use Rattle.machine.specs.Fifos.{isEmpty, isFull, amount}
+
+-- "keeps 15 to 12 and 10 to 8"
+abbrev pub mcsrKept : ℕ
+mcsrKept = ones 12 15 + ones 8 10
+
+-- "Bit 10 enables write cycles, 14 read cycles"
+abbrev pub enableBit : Side → ℕ
+enableBit pci = 14
+enableBit addon = 10
+
+-- the bit that lets a write cycle wait for four words (9), a read cycle for room for four (13)
+abbrev pub fourBit : Side → ℕ
+fourBit pci = 13
+fourBit addon = 9
+
+unfoldable pub mcsrAfter : Access → ℕ → ℕ
+mcsrAfter x old = cond (writes pci mcsrAt x) (written mcsrKept old (x .value) (x .enables)) old
+
+-- FIFO status: 2 empty, 1 four or more (free for PCI's, held for the Add-On's), 0 full
+unfoldable pub fifoStatus : Side → List ℕ → ℕ
+fifoStatus side ws = bitOr (bitOr (flag (isEmpty ws) 2) (flag (leb 4 (amount side ws)) 1)) (flag (isFull ws) 0)
+
+-- Status: 7 write count zero, 6 read count zero, 5 to 3 the Add-On-to-PCI FIFO, 2 to 0 the PCI-to-Add-On FIFO
+unfoldable pub mcsrStatus : State → ℕ
+mcsrStatus st =
+    bitOr (bitOr (flag (eqb (lane addon st .count) 0) 7) (flag (eqb (lane pci st .count) 0) 6))
+    (bitOr (fifoStatus addon (held addon st) * 2 ^ 3) (fifoStatus pci (held pci st)))
+
+-- as it is read: the kept bits and the status; the command bits and all others are zero
+unfoldable pub mcsrRead : State → ℕ
+mcsrRead st = bitOr (st .mcsr) (mcsrStatus st)

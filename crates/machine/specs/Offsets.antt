@@ -1,0 +1,51 @@
+-- "Register offsets": the tables of both sides.
+use Prim.Native.Nat.{ℕ, _/_, _%_}
+use mathlib.Core.Bool.{Bool, cond, not, _&&_, _||_}
+use lib.Dec.{eqb, ltb}
+use Rattle.machine.specs.Sides.{Side, pci, addon, Party, host, card, partyOf, sameParty}
+
+-- 00 to 0C the PCI's outgoing mailboxes 1 to 4, 10 to 1C its incoming ones, for both sides alike
+abbrev pub isMailbox : ℕ → Bool
+isMailbox offset = ltb offset 0x20 && eqb (offset % 4) 0
+
+-- the place of a mailbox among the eight words
+abbrev pub mailbox : ℕ → ℕ
+mailbox offset = offset / 4
+
+-- a mailbox's owner, who writes it, and the other side, who reads it: PCI owns the outgoing ones, the Add-On the incoming ones
+abbrev pub writer : ℕ → Party
+writer offset = cond (ltb offset 0x10) host card
+
+abbrev pub reader : ℕ → Party
+reader offset = cond (ltb offset 0x10) card host
+
+abbrev pub fifoPort : ℕ
+fifoPort = 0x20
+
+-- 24 write address, 2C read address
+abbrev pub addressAt : Side → ℕ
+addressAt pci = 0x2C
+addressAt addon = 0x24
+
+-- 28 write count, 30 read count
+abbrev pub countAt : Side → ℕ
+countAt pci = 0x30
+countAt addon = 0x28
+
+abbrev pub statusAt : ℕ
+statusAt = 0x34
+
+abbrev pub intcsrAt : ℕ
+intcsrAt = 0x38
+
+abbrev pub mcsrAt : ℕ
+mcsrAt = 0x3C
+
+-- PCI has a register at every fourth offset from 00 to 3C; the Add-On has the mailboxes, the FIFO port and the status
+abbrev pub inTable : Side → ℕ → Bool
+inTable pci offset = ltb offset 0x40 && eqb (offset % 4) 0
+inTable addon offset = isMailbox offset || eqb offset fifoPort || eqb offset statusAt
+
+-- read-only to a side: the mailboxes that it does not own, and the status
+abbrev pub isReadOnly : Side → ℕ → Bool
+isReadOnly side offset = isMailbox offset && not (sameParty (writer offset) (partyOf side)) || eqb offset statusAt

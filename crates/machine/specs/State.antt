@@ -1,0 +1,36 @@
+-- What the controller holds.
+use Prim.Native.Nat.{ℕ}
+use mathlib.Core.List.{List, []}
+use lib.ListN.{replicate}
+use Rattle.machine.specs.Sides.{Side, pci, addon}
+
+-- A lane: the words of a FIFO, front first, and the address and count registers of the cycles that work on it.
+-- Write cycles work on the lane from the Add-On, read cycles on the lane from PCI.
+pub record Lane : Type 0 where
+  pub words : List ℕ
+  pub address : ℕ
+  pub count : ℕ
+
+-- mail has the eight mailbox words by their offset / 4; marks has a one for each full byte, as the status register shows them
+pub record State : Type 0 where
+  pub mail : List ℕ
+  pub marks : ℕ
+  pub fromPci : Lane
+  pub fromAddon : Lane
+  pub intcsr : ℕ
+  pub mcsr : ℕ
+
+abbrev pub lane : Side → State → Lane
+lane pci st = st .fromPci
+lane addon st = st .fromAddon
+
+-- the words that the FIFO fed by a side holds: two FIFOs are equal if these are
+abbrev pub held : Side → State → List ℕ
+held side st = lane side st .words
+
+-- "Reset puts zero in every register, mailbox byte and mark and empties both FIFOs"
+abbrev pub resetLane : Lane
+resetLane = record { words = []; address = 0; count = 0 }
+
+abbrev pub resetState : State
+resetState = record { mail = replicate 8 0; marks = 0; fromPci = resetLane; fromAddon = resetLane; intcsr = 0; mcsr = 0 }

@@ -1,0 +1,152 @@
+-- One step: the code, the answer, and the state and memory after it. For every state, memory, start and numbers.
+use Prim.Native.Nat.{ℕ, _^_}
+use mathlib.Core.Bool.{Bool, cond, not, _&&_}
+use mathlib.Core.List.{List}
+use lib.Dec.{eqb}
+use lib.ListN.{length, getD}
+use Rattle.machine.specs.Words.{bit, flag, byteMask, mask, cleared, raised, shown, merged, written, only}
+use Rattle.machine.specs.Sides.{Side, pci, addon, other, Party, host, card}
+use Rattle.machine.specs.State.{State, lane, held, resetState}
+use Rattle.machine.specs.Access.{Access, accessOf, Kind, reading, writing, cycle, chipReset, unknown, isReset, cycles}
+use Rattle.machine.specs.Offsets.{isMailbox, mailbox, fifoPort, addressAt, countAt, statusAt, intcsrAt}
+use Rattle.machine.specs.Mailboxes.{marksAt, marksAfter, mailAfter}
+use Rattle.machine.specs.Fifos.{front}
+use Rattle.machine.specs.Window.{placeOf, isWindowOutOfForm}
+use Rattle.machine.specs.Mcsr.{mcsrAfter, fifoStatus, mcsrStatus, mcsrRead}
+use Rattle.machine.specs.Cycles.{lowEnables, isReady, cycleWord, stored, addressAfter, countAfter, laneAfter}
+use Rattle.machine.specs.Intcsr.{intcsrWritten, outgoingEvent, incomingEvent, intcsrAfter, intcsrAborted, lineOf, intcsrRead}
+use Rattle.machine.specs.Codes.{done, stateOutOfForm, noMemoryThere, notAFrameLine}
+use Rattle.machine.specs.Code.{codeOf, isOutOfForm, isUnknownOffset, hasBadEnables, isPartFifoAccess, isReadOnlyWrite, isFullOrEmpty, isTransferOff, isCountZero, isAbortStanding, isNotReady, isNoMemory}
+use Rattle.machine.specs.declared.Step.{Step}
+use Rattle.machine.specs.declared.Answer.{Answer}
+
+-- ---- what is answered
+
+-- an answer's address, data and enables
+pub record Reply : Type 0 where
+  pub address : ℕ
+  pub value : ℕ
+  pub enables : ℕ
+
+abbrev pub nothing : Reply
+nothing = record { address = 0; value = 0; enables = 0 }
+
+abbrev pub showing : ℕ → Reply
+showing value = record { address = 0; value = value; enables = 0 }
+
+-- the registers but the FIFO port; those of the Add-On's table are the same ones
+unfoldable pub register : State → ℕ → ℕ
+register st offset =
+    cond (isMailbox offset) (getD (st .mail) (mailbox offset) 0)
+    (cond (eqb offset (addressAt addon)) (st .fromAddon .address)
+    (cond (eqb offset (countAt addon)) (st .fromAddon .count)
+    (cond (eqb offset (addressAt pci)) (st .fromPci .address)
+    (cond (eqb offset (countAt pci)) (st .fromPci .count)
+    (cond (eqb offset statusAt) (st .marks)
+    (cond (eqb offset intcsrAt) (intcsrRead (st .intcsr))
+    (mcsrRead st)))))))
+
+-- the FIFO whose port a party reads: the one that the other side feeds
+abbrev pub readFifo : Party → Side
+readFifo host = addon
+readFifo card = pci
+
+-- a read: the front word at the port, whose reads are whole by code 6; the enabled bytes of any other register
+unfoldable pub readValue : Party → State → Access → ℕ
+readValue party st x = cond (eqb (x .offset) fifoPort) (front (held (readFifo party) st)) (shown (register st (x .offset)) (x .enables))
+
+-- A done step: a read shows data; a cycle its address before the step, its word and the lowest n enables; writes and a reset nothing.
+unfoldable pub doneReply : Kind → State → ℕ → List ℕ → Access → Reply
+doneReply (reading party) st start memory x = showing (readValue party st x)
+doneReply (writing party) st start memory x = nothing
+doneReply (cycle side) st start memory x =
+    let l = lane side st in
+    record { address = l .address; value = cycleWord side st start memory; enables = lowEnables (l .count) }
+doneReply chipReset st start memory x = nothing
+doneReply unknown st start memory x = nothing
+
+-- code 13 "returns the address, zero data and zero enables"
+unfoldable pub abortedReply : Kind → State → Reply
+abortedReply (reading party) st = nothing
+abortedReply (writing party) st = nothing
+abortedReply (cycle side) st = record { address = lane side st .address; value = 0; enables = 0 }
+abortedReply chipReset st = nothing
+abortedReply unknown st = nothing
+
+-- of any other code, "data, address and enables are zero"
+unfoldable pub replyOf : State → ℕ → List ℕ → Access → ℕ → Reply
+replyOf st start memory x code =
+    cond (eqb code done) (doneReply (x .kind) st start memory x) (cond (eqb code noMemoryThere) (abortedReply (x .kind) st) nothing)
+
+-- the line after the step: "zero for code 1, else that of the state"
+unfoldable pub answered : State → ℕ → Reply → Answer
+answered after code r =
+    record {
+      code = code;
+      address = r .address;
+      value = r .value;
+      enables = r .enables;
+      line = not (eqb code stateOutOfForm) && lineOf (after .intcsr);
+    }
+
+-- the answer to a line of text that is no frame: no step is made
+unfoldable pub notAFrame : State → Answer
+notAFrame st = answered st notAFrameLine nothing
+
+-- ---- what is left
+
+-- a done step that is no reset: each register by its own rule
+unfoldable pub doneState : State → Access → ℕ → State
+doneState st x word =
+    record {
+      mail = mailAfter x (st .mail);
+      marks = marksAfter x (st .marks);
+      fromPci = laneAfter pci x word (st .fromPci);
+      fromAddon = laneAfter addon x word (st .fromAddon);
+      intcsr = intcsrAfter (x .kind) st x;
+      mcsr = mcsrAfter x (st .mcsr);
+    }
+
+-- "Code 13 sets INTCSR bit 20 only"
+unfoldable pub abortedState : State → State
+abortedState st =
+    record {
+      mail = st .mail;
+      marks = st .marks;
+      fromPci = st .fromPci;
+      fromAddon = st .fromAddon;
+      intcsr = intcsrAborted (st .intcsr);
+      mcsr = st .mcsr;
+    }
+
+-- "Codes 1 to 12 and 14 change nothing"
+unfoldable pub stateAfter : State → Access → ℕ → ℕ → State
+stateAfter st x code word =
+    cond (eqb code done) (cond (isReset (x .kind)) resetState (doneState st x word))
+    (cond (eqb code noMemoryThere) (abortedState st) st)
+
+-- only a done write cycle stores; a reset leaves host memory as it is
+unfoldable pub memoryAfter : State → ℕ → List ℕ → Access → ℕ → List ℕ
+memoryAfter st start memory x code = cond (eqb code done && cycles addon (x .kind)) (stored st start memory) memory
+
+-- ---- the step
+
+pub record Outcome : Type 0 where
+  pub state : State
+  pub memory : List ℕ
+  pub answer : Answer
+
+-- what a code brings about
+unfoldable pub respond : State → ℕ → List ℕ → Access → ℕ → Outcome
+respond st start memory x code =
+    let r = replyOf st start memory x code in
+    let after = stateAfter st x code (r .value) in
+    record { state = after; memory = memoryAfter st start memory x code; answer = answered after code r }
+
+unfoldable pub stepOf : State → ℕ → List ℕ → Step → Outcome
+stepOf st start memory s = let x = accessOf s in respond st start memory x (codeOf st start (length memory) x)
+
+-- a proof that says `unfolding computing` computes a step of given numbers: this opens every rule
+unfoldable pub computing : ℕ
+unfolding bit flag byteMask mask cleared raised shown merged written only marksAt marksAfter mailAfter placeOf isWindowOutOfForm mcsrAfter fifoStatus mcsrStatus mcsrRead lowEnables isReady cycleWord stored addressAfter countAfter intcsrWritten outgoingEvent incomingEvent intcsrAfter intcsrAborted lineOf intcsrRead codeOf isOutOfForm isUnknownOffset hasBadEnables isPartFifoAccess isReadOnlyWrite isFullOrEmpty isTransferOff isCountZero isAbortStanding isNotReady isNoMemory register readValue doneReply abortedReply replyOf answered notAFrame doneState abortedState stateAfter memoryAfter respond stepOf
+computing = 0

@@ -1,0 +1,18 @@
+// A step and its answer, as numbers. The definitions in specs/ and the code that meets them share these two.
+
+// A step: its kind, an offset, byte enables and 32-bit data. Any four numbers make a step.
+pub struct Step {
+    pub kind: u32,
+    pub offset: u32,
+    pub enables: u32,
+    pub value: u32,
+}
+
+// An answer: its code, an address, data, enables, and the interrupt line after the step.
+pub struct Answer {
+    pub code: u32,
+    pub address: u32,
+    pub value: u32,
+    pub enables: u32,
+    pub line: bool,
+}
