@@ -16,3 +16,5 @@ pub mod Step
 pub mod Event
 pub mod Run
 pub mod Examples
+pub mod Account
+pub mod Theorems

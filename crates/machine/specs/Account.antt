@@ -1,0 +1,145 @@
+-- Demand 3: what its three accounts count. Everything here goes by the numbers of steps and answers alone;
+-- no rule of the machine and no part of its state is used.
+use Prim.Native.Nat.{ℕ, _*_, _/_, _%_}
+use mathlib.Core.Path.{_≡_}
+use mathlib.Core.Bool.{Bool, true, false, cond, _&&_, _||_}
+use mathlib.Core.List.{List, [], _∷_, _++_, map}
+use lib.Dec.{eqb, ltb}
+use Rattle.machine.specs.Words.{bit}
+use Rattle.machine.specs.Sides.{Side, pci, addon}
+use Rattle.machine.specs.Event.{Event}
+use Rattle.machine.specs.declared.Step.{Step}
+use Rattle.machine.specs.declared.Answer.{Answer}
+
+abbrev pub isDone : Event → Bool
+isDone e = eqb (e .answer .code) 0
+
+abbrev pub isKind : ℕ → Event → Bool
+isKind kind e = eqb (e .step .kind) kind
+
+abbrev pub at : ℕ → ℕ → Event → Bool
+at kind offset e = isKind kind e && eqb (e .step .offset) offset
+
+-- a write of a kind to offset 3C with byte 3 enabled and a one in bit k
+abbrev pub command : ℕ → ℕ → Event → Bool
+command kind k e = at kind 0x3C e && bit (e .step .enables) 3 && bit (e .step .value) k
+
+-- ---- the FIFOs, each named by the side that feeds it
+
+-- what empties it, if done: a reset, or a PCI write to MCSR with a one in bit 25 (PCI-to-Add-On) or 26 (Add-On-to-PCI)
+abbrev pub clears : Side → Event → Bool
+clears pci e = isKind 6 e || command 1 25 e
+clears addon e = isKind 6 e || command 1 26 e
+
+-- the words let in, if done: the data of a port write, and what a read cycle answers
+abbrev pub wordsIn : Side → Event → List ℕ
+wordsIn pci e = cond (isKind 5 e) (e .answer .value ∷ []) (cond (at 1 0x20 e) (e .step .value ∷ []) [])
+wordsIn addon e = cond (at 3 0x20 e) (e .step .value ∷ []) []
+
+-- the words handed out, if done: what a port read answers, and what a write cycle answers
+abbrev pub wordsOut : Side → Event → List ℕ
+wordsOut pci e = cond (at 2 0x20 e) (e .answer .value ∷ []) []
+wordsOut addon e = cond (isKind 4 e || at 0 0x20 e) (e .answer .value ∷ []) []
+
+-- the books of a FIFO: the words let in and the words handed out since it was last emptied by a clear or reset
+pub record Tally : Type 0 where
+  pub letIn : List ℕ
+  pub handedOut : List ℕ
+
+abbrev pub fresh : Tally
+fresh = record { letIn = []; handedOut = [] }
+
+-- one list of the books after an event: a refused one leaves it, a clear ends it, any other appends its words
+abbrev pub booked : Side → Event → List ℕ → List ℕ → List ℕ
+booked side e sofar new = cond (isDone e) (cond (clears side e) [] (sofar ++ new)) sofar
+
+abbrev pub tallyAfter : Side → Tally → Event → Tally
+tallyAfter side t e = record { letIn = booked side e (t .letIn) (wordsIn side e); handedOut = booked side e (t .handedOut) (wordsOut side e) }
+
+abbrev pub talliedFrom : Side → Tally → List Event → Tally
+talliedFrom side t [] = t
+talliedFrom side t (e ∷ es) = talliedFrom side (tallyAfter side t e) es
+
+abbrev pub tally : Side → List Event → Tally
+tally side es = talliedFrom side fresh es
+
+-- ---- the mailboxes: byte k of the status is byte k % 4 of the mailbox at offset k / 4 * 4, outgoing if k is below 16
+
+-- what an event is to a mailbox byte
+pub data Touch : Type 0 where
+  write read clear none : Touch
+
+-- to that byte, enabled
+abbrev pub toByte : ℕ → Event → Bool
+toByte k e = eqb (e .step .offset) (k / 4 * 4) && bit (e .step .enables) (k % 4)
+
+-- its owner's write (PCI's if outgoing, else the Add-On's), and the other side's read
+abbrev pub ownerWrites : ℕ → Event → Bool
+ownerWrites k e = isKind (cond (ltb k 16) 1 3) e && toByte k e
+
+abbrev pub otherReads : ℕ → Event → Bool
+otherReads k e = isKind (cond (ltb k 16) 2 0) e && toByte k e
+
+-- a reset, or a mailbox clear by MCSR bit 27
+abbrev pub clearsByte : ℕ → Event → Bool
+clearsByte k e = isKind 6 e || command 1 27 e
+
+abbrev pub touch : ℕ → Event → Touch
+touch k e = cond (isDone e) (cond (clearsByte k e) clear (cond (ownerWrites k e) write (cond (otherReads k e) read none))) none
+
+-- the later of two, if it is any
+abbrev pub later : Touch → Touch → Touch
+later write earlier = write
+later read earlier = read
+later clear earlier = clear
+later none earlier = earlier
+
+-- the latest of all that are done to byte k
+abbrev pub latest : ℕ → List Event → Touch
+latest k [] = none
+latest k (e ∷ es) = later (latest k es) (touch k e)
+
+abbrev pub isWrite : Touch → Bool
+isWrite write = true
+isWrite read = false
+isWrite clear = false
+isWrite none = false
+
+-- ---- two runs
+
+abbrev pub isPortWrite : Step → Bool
+isPortWrite s = eqb (s .offset) 0x20 && (eqb (s .kind) 1 || eqb (s .kind) 3)
+
+-- two steps that differ at most in the data of a FIFO port write
+pub record Alike (s t : Step) : Type 0 where
+  pub kind : s .kind ≡ t .kind
+  pub offset : s .offset ≡ t .offset
+  pub enables : s .enables ≡ t .enables
+  pub value : isPortWrite s ≡ false → s .value ≡ t .value
+
+pub data AllAlike : List Step → List Step → Type 0 where
+  none : AllAlike [] []
+  more : {s t : Step} {ss ts : List Step} → Alike s t → AllAlike ss ts → AllAlike (s ∷ ss) (t ∷ ts)
+
+abbrev pub answers : List Event → List Answer
+answers es = map (λ (e : Event). e .answer) es
+
+-- every event has a property
+abbrev pub Every : (Event → Type 0) → List Event → Type 0
+Every P [] = Unit {0}
+Every P (e ∷ es) = P e × Every P es
+
+-- no clear of that FIFO and no reset is done
+abbrev pub NoClear : Side → List Event → Type 0
+NoClear side es = Every (λ (e : Event). (isDone e && clears side e) ≡ false) es
+
+-- the words that an event had accepted into that FIFO: none if it was refused
+abbrev pub accepted : Side → Event → List ℕ
+accepted side e = cond (isDone e) (wordsIn side e) []
+
+-- event by event, the accepted words agree
+abbrev pub Agreed : Side → List Event → List Event → Type 0
+Agreed side [] [] = Unit {0}
+Agreed side [] (f ∷ fs) = ⊥
+Agreed side (e ∷ es) [] = ⊥
+Agreed side (e ∷ es) (f ∷ fs) = (accepted side e ≡ accepted side f) × Agreed side es fs

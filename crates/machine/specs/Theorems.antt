@@ -1,0 +1,114 @@
+-- What is proved of the machine: a statement for each promise. The proofs are in proofs/, each under the name that stands beside its statement.
+use Prim.Native.Nat.{ℕ, _≤_, _<_}
+use mathlib.Core.Path.{_≡_}
+use mathlib.Core.Bool.{Bool, true, false, cond, not, _&&_, _||_}
+use mathlib.Core.List.{List, [], _∷_, _++_}
+use lib.Dec.{eqb}
+use lib.ListN.{length}
+use Rattle.machine.specs.Words.{bit}
+use Rattle.machine.specs.Sides.{Side, pci, addon}
+use Rattle.machine.specs.State.{State, lane, held, resetState}
+use Rattle.machine.specs.Access.{Access, accessOf}
+use Rattle.machine.specs.Intcsr.{lineOf}
+use Rattle.machine.specs.Code.{codeOf, tests, isOutOfForm}
+use Rattle.machine.specs.Step.{Outcome, stepOf}
+use Rattle.machine.specs.Event.{Event}
+use Rattle.machine.specs.Run.{run}
+use Rattle.machine.specs.Account.{tally, latest, isWrite, AllAlike, answers, Every, NoClear, Agreed}
+use Rattle.machine.specs.declared.Step.{Step}
+use Rattle.machine.specs.declared.Answer.{Answer}
+
+-- ---- demand 1: every step, on every state, memory and set of numbers
+
+-- `numbered`: the code is one of 0 to 13
+abbrev pub Numbered : Type 0
+Numbered = (st : State) (start : ℕ) (memory : List ℕ) (s : Step) → stepOf st start memory s .answer .code ≤ 13
+
+-- an answer that only refuses: zero data, address and enables; the line is zero for code 1, else that of the state
+abbrev pub refusal : ℕ → State → Answer
+refusal code st = record { code = code; address = 0; value = 0; enables = 0; line = cond (eqb code 1) false (lineOf (st .intcsr)) }
+
+-- `refused`: with a code other than 0 and 13 neither the controller nor the memory changes, and nothing but the code and the line is answered
+abbrev pub Refused : Type 0
+Refused =
+    (st : State) (start : ℕ) (memory : List ℕ) (s : Step)
+    → (let o = stepOf st start memory s in let code = o .answer .code in
+    eqb code 0 ≡ false → eqb code 13 ≡ false → o ≡ record { state = st; memory = memory; answer = refusal code st })
+
+-- all but INTCSR is as it was, and INTCSR has bit 20 besides
+pub record AbortOnly (st after : State) : Type 0 where
+  pub mail : after .mail ≡ st .mail
+  pub marks : after .marks ≡ st .marks
+  pub fromPci : after .fromPci ≡ st .fromPci
+  pub fromAddon : after .fromAddon ≡ st .fromAddon
+  pub intcsr : (k : ℕ) → bit (after .intcsr) k ≡ (bit (st .intcsr) k || eqb k 20)
+  pub mcsr : after .mcsr ≡ st .mcsr
+
+-- the address of a cycle: the write address for kind 4, the read address for kind 5
+abbrev pub cycleAddress : State → Step → ℕ
+cycleAddress st s = cond (eqb (s .kind) 4) (st .fromAddon .address) (cond (eqb (s .kind) 5) (st .fromPci .address) 0)
+
+-- `aborted`: code 13 sets INTCSR bit 20 and nothing else; it returns the address, zero data and zero enables, and the line is 1
+abbrev pub Aborted : Type 0
+Aborted =
+    (st : State) (start : ℕ) (memory : List ℕ) (s : Step)
+    → (let o = stepOf st start memory s in
+    o .answer .code ≡ 13
+    → AbortOnly st (o .state)
+    × ((o .memory ≡ memory) × (o .answer ≡ record { code = 13; address = cycleAddress st s; value = 0; enables = 0; line = true })))
+
+-- the test of a code in a list of tests
+abbrev pub testOf : ℕ → List (ℕ × Bool) → Bool
+testOf code [] = false
+testOf code (t ∷ ts) = cond (eqb (t .0) code) (t .1) (testOf code ts)
+
+-- `lowest`: the code given applies, unless it is 0, and no code that applies is lower than it; with 0, none applies
+pub record Lowest (code : ℕ) (ts : List (ℕ × Bool)) : Type 0 where
+  pub applies : eqb code 0 ≡ false → testOf code ts ≡ true
+  pub least : (c : ℕ) → testOf c ts ≡ true → (eqb code 0 ≡ false) × (code ≤ c)
+
+abbrev pub LowestCode : Type 0
+LowestCode = (st : State) (start words : ℕ) (x : Access) → Lowest (codeOf st start words x) (tests st start words x)
+
+-- ---- form
+
+-- `form-kept`: a step leaves a state in form in form
+abbrev pub FormKept : Type 0
+FormKept =
+    (st : State) (start : ℕ) (memory : List ℕ) (s : Step) → isOutOfForm st ≡ false → isOutOfForm (stepOf st start memory s .state) ≡ false
+
+-- `never-out-of-form`: from reset no step ever answers 1
+abbrev pub NeverOutOfForm : Type 0
+NeverOutOfForm =
+    (start : ℕ) (memory : List ℕ) (steps : List Step) → Every (λ (e : Event). eqb (e .answer .code) 1 ≡ false) (run resetState start memory steps .events)
+
+-- ---- demand 3: from reset, for any list of steps, any start and any memory
+
+-- `fifo-account`: of each FIFO, the words let in since it was last emptied are the words handed out since, then the words still held, in order
+abbrev pub FifoAccount : Type 0
+FifoAccount =
+    (side : Side) (start : ℕ) (memory : List ℕ) (steps : List Step)
+    → (let r = run resetState start memory steps in let t = tally side (r .events) in t .letIn ≡ t .handedOut ++ held side (r .state))
+
+-- `mail-account`: of the thirty-two mailbox bytes, one is full exactly if the latest of its owner's writes, the other side's reads, mailbox clears and resets,
+-- all of them done, was a write
+abbrev pub MailAccount : Type 0
+MailAccount =
+    (k : ℕ) → k < 32 → (start : ℕ) (memory : List ℕ) (steps : List Step)
+    → (let r = run resetState start memory steps in bit (r .state .marks) k ≡ isWrite (latest k (r .events)))
+
+-- `two-runs-since`: two runs that differ at most in the data of FIFO port writes, with the same answers and the same words left in a FIFO,
+-- let the same words into it since its last clear or reset
+abbrev pub TwoRunsSince : Type 0
+TwoRunsSince =
+    (side : Side) (start : ℕ) (memory : List ℕ) (ss ts : List Step) → AllAlike ss ts
+    → (let r = run resetState start memory ss in let q = run resetState start memory ts in
+    answers (r .events) ≡ answers (q .events) → held side (r .state) ≡ held side (q .state) → tally side (r .events) .letIn ≡ tally side (q .events) .letIn)
+
+-- `two-runs`: with no clear and no reset done, and the words left in both FIFOs the same, every accepted word agreed, event by event
+abbrev pub TwoRuns : Type 0
+TwoRuns =
+    (start : ℕ) (memory : List ℕ) (ss ts : List Step) → AllAlike ss ts
+    → (let r = run resetState start memory ss in let q = run resetState start memory ts in
+    answers (r .events) ≡ answers (q .events) → ((side : Side) → held side (r .state) ≡ held side (q .state))
+    → ((side : Side) → NoClear side (r .events)) → (side : Side) → Agreed side (r .events) (q .events))
