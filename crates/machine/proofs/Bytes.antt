@@ -1,0 +1,76 @@
+-- The bits of masks, shown, merged and written words.
+use Prim.Native.Nat.{ℕ, zero, suc, _-_, _*_, _/_, _^_, _<_}
+use mathlib.Core.Path.{_≡_, refl, sym, ap, _∙_}
+use mathlib.Core.Bool.{Bool, true, false, cond, not, _&&_, _||_, and-true, and-false, or-false}
+use mathlib.Core.List.{List, [], _∷_, head-eq-of-cons-eq, tail-eq-of-cons-eq}
+use native.Mathlib.Omega.{arith}
+use lib.Dec.{eqb}
+use lib.Bits.{bitAnd, bitOr, or-lt, and-le-r}
+use borrow.Author.Tests.{eqb-true, eqb-false}
+use Rattle.machine.specs.Words.{bit, ones, byteMask, mask, shown, merged, written}
+use Rattle.machine.proofs.Bits.{bit-or, bit-and, bit-zero, bit-cleared}
+
+-- two tests agree below n if they agree on each: by computation for tests of numbers
+abbrev pub listed : ℕ → (ℕ → Bool) → List Bool
+listed zero f = []
+listed (suc n) f = f n ∷ listed n f
+
+pub agree : (n : ℕ) (f g : ℕ → Bool) → listed n f ≡ listed n g → (k : ℕ) → k < n → f k ≡ g k
+agree zero f g e k h = absurd (omega arith)
+agree (suc n) f g e k h = at (eqb k n) refl (λ l. agree n f g (tail-eq-of-cons-eq e) k l)
+  where
+    at : (b : Bool) → eqb k n ≡ b → (k < n → f k ≡ g k) → f k ≡ g k
+    at true q r = rw (eqb-true k n q) (head-eq-of-cons-eq e)
+    at false q r = r (omega (arith, eqb-false k n q))
+
+byte-bit : (i full k : ℕ) → listed 32 (bit full) ≡ listed 32 (λ j. eqb (j / 8) i) → k < 32 → (b : Bool) → bit (cond b full 0) k ≡ (b && eqb (k / 8) i)
+byte-bit i full k e h true = agree 32 (bit full) (λ j. eqb (j / 8) i) e k h
+byte-bit i full k e h false = bit-zero k
+
+pick : (f : ℕ → Bool) (q : ℕ) → q < 4 → (f 0 && eqb q 0 || f 1 && eqb q 1 || f 2 && eqb q 2 || f 3 && eqb q 3) ≡ f q
+pick f zero h = simp (and-true, and-false, or-false)
+pick f (suc zero) h = simp (and-true, and-false, or-false)
+pick f (suc (suc zero)) h = simp (and-true, and-false, or-false)
+pick f (suc (suc (suc zero))) h = simp (and-true, and-false, or-false)
+pick f (suc (suc (suc (suc q)))) h = absurd (omega arith)
+
+byte-lt : (b : Bool) (full : ℕ) → full < 2 ^ 32 → cond b full 0 < 2 ^ 32
+byte-lt true full p = p
+byte-lt false full p = omega arith
+
+mask-lt : (e : ℕ) → mask e < 2 ^ 32
+unfolding mask byteMask
+mask-lt e =
+    or-lt 32 _ _
+    (or-lt 32 _ _
+    (or-lt 32 _ _ (byte-lt (bit e 0) (ones 0 7) (omega arith)) (byte-lt (bit e 1) (ones 8 15) (omega arith)))
+    (byte-lt (bit e 2) (ones 16 23) (omega arith)))
+    (byte-lt (bit e 3) (ones 24 31) (omega arith))
+
+pub shown-lt : (x e : ℕ) → shown x e < 2 ^ 32
+unfolding shown
+shown-lt x e = omega (arith, and-le-r x (mask e), mask-lt e)
+
+module _ (k : ℕ) (h : k < 32) where
+  pub bit-mask : (e : ℕ) → bit (mask e) k ≡ bit e (k / 8)
+  unfolding mask byteMask bit
+  bit-mask e =
+      simp bit-or
+      (λ i. byte-bit 0 (ones 0 7) k refl h (bit e 0) i || byte-bit 1 (ones 8 15) k refl h (bit e 1) i || byte-bit 2 (ones 16 23) k refl h (bit e 2) i || byte-bit 3 (ones 24 31) k refl h (bit e 3) i)
+      ∙ pick (bit e) (k / 8) (omega arith)
+
+  choose : (m o n : Bool) → (o && not m || n && m) ≡ cond m n o
+  choose true o n = simp (and-false, and-true)
+  choose false o n = simp (and-false, and-true, or-false)
+
+  pub bit-shown : (x e : ℕ) → bit (shown x e) k ≡ (bit x k && bit e (k / 8))
+  unfolding shown
+  bit-shown x e = simp (bit-and, bit-mask)
+
+  pub bit-merged : (old new e : ℕ) → bit (merged old new e) k ≡ cond (bit e (k / 8)) (bit new k) (bit old k)
+  unfolding merged
+  bit-merged old new e = simp (bit-or, bit-shown, bit-cleared old (mask e) k (mask-lt e) h, bit-mask) (choose (bit e (k / 8)) (bit old k) (bit new k))
+
+  pub bit-written : (keeps old new e : ℕ) → bit (written keeps old new e) k ≡ (cond (bit e (k / 8)) (bit new k) (bit old k) && bit keeps k)
+  unfolding written
+  bit-written keeps old new e = simp (bit-and, bit-merged)
