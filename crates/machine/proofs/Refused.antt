@@ -1,7 +1,7 @@
 -- Demand 1: a refused step changes nothing, code 13 sets INTCSR bit 20 only, and the code is the lowest of 0 to 13 that applies.
 use Prim.Native.Nat.{ℕ, zero, suc, _≤_}
 use mathlib.Core.Path.{_≡_, refl, sym, ap, _∙_}
-use mathlib.Core.Bool.{Bool, true, false, cond, not, _&&_, _||_, true≢false, or-true}
+use mathlib.Core.Bool.{Bool, true, false, cond, not, _&&_, _||_, true≢false, or-true, true-or}
 use mathlib.Core.List.{List, [], _∷_}
 use native.Mathlib.Omega.{arith}
 use lib.Dec.{eqb, leb}
@@ -17,6 +17,7 @@ use Rattle.machine.specs.Step.{stepOf, respond, stateAfter, memoryAfter,
 use Rattle.machine.specs.Theorems.{Numbered, Refused, Aborted, AbortOnly, refusal, cycleAddress, testOf, Lowest, LowestCode}
 use Rattle.machine.specs.declared.Step.{Step}
 use Rattle.machine.proofs.Tests.{and-left, and-right}
+use Rattle.machine.proofs.Bits.{bit-raised}
 
 -- ---- the lowest code
 
@@ -100,3 +101,37 @@ unfolding stepOf respond stateAfter memoryAfter answered replyOf
 refused st start memory s e f =
     let code = codeOf st start (length memory) (accessOf s) in
     rw (e, f) (λ i. record { state = st; memory = memory; answer = record { code = code; address = 0; value = 0; enables = 0; line = line-cond (eqb code 1) (lineOf (st .intcsr)) i } })
+
+-- ---- code 13
+
+abort-only : (st : State) → AbortOnly st (abortedState st)
+unfolding abortedState intcsrAborted
+abort-only st = record { mail = refl; marks = refl; fromPci = refl; fromAddon = refl; intcsr = λ k. bit-raised (st .intcsr) true 20 k; mcsr = refl }
+
+aborted-line : (st : State) → lineOf (abortedState st .intcsr) ≡ true
+unfolding abortedState lineOf intcsrAborted
+aborted-line st = simp (bit-raised (st .intcsr) true 20 20, or-true, true-or)
+
+aborted-address : (st : State) (s : Step)
+    → abortedReply (kindOf (s .kind)) st ≡ record { address = cycleAddress st s; value = 0; enables = 0 }
+unfolding abortedReply
+aborted-address st s = by (s .kind)
+  where
+    by : (k : ℕ)
+        → abortedReply (kindOf k) st ≡ record { address = cond (eqb k 4) (st .fromAddon .address) (cond (eqb k 5) (st .fromPci .address) 0); value = 0; enables = 0 }
+    by zero = refl
+    by (suc zero) = refl
+    by (suc (suc zero)) = refl
+    by (suc (suc (suc zero))) = refl
+    by (suc (suc (suc (suc zero)))) = refl
+    by (suc (suc (suc (suc (suc zero))))) = refl
+    by (suc (suc (suc (suc (suc (suc zero)))))) = refl
+    by (suc (suc (suc (suc (suc (suc (suc n))))))) =
+        let k = suc (suc (suc (suc (suc (suc (suc n)))))) in rw (ne-eqb k 4 (λ q. omega arith), ne-eqb k 5 (λ q. omega arith))
+
+pub aborted : Aborted
+unfolding stepOf respond stateAfter memoryAfter answered replyOf
+aborted st start memory s e =
+    let after : stepOf st start memory s .state ≡ abortedState st = rw e in
+    (rw after (abort-only st),
+    (rw e, rw e (λ i. record { code = 13; address = aborted-address st s i .address; value = aborted-address st s i .value; enables = aborted-address st s i .enables; line = aborted-line st i })))
