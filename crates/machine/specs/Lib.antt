@@ -18,3 +18,4 @@ pub mod Run
 pub mod Examples
 pub mod Account
 pub mod Theorems
+pub mod Worthless

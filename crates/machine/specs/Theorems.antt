@@ -13,7 +13,7 @@ use Rattle.machine.specs.Intcsr.{lineOf}
 use Rattle.machine.specs.Code.{codeOf, tests, isOutOfForm}
 use Rattle.machine.specs.Step.{Outcome, stepOf}
 use Rattle.machine.specs.Event.{Event}
-use Rattle.machine.specs.Run.{run}
+use Rattle.machine.specs.Run.{Run, run}
 use Rattle.machine.specs.Account.{tally, latest, isWrite, AllAlike, answers, Every, NoClear, Agreed}
 use Rattle.machine.specs.declared.Step.{Step}
 use Rattle.machine.specs.declared.Answer.{Answer}
@@ -85,10 +85,13 @@ NeverOutOfForm =
 -- ---- demand 3: from reset, for any list of steps, any start and any memory
 
 -- `fifo-account`: of each FIFO, the words let in since it was last emptied are the words handed out since, then the words still held, in order
-abbrev pub FifoAccount : Type 0
-FifoAccount =
+abbrev pub KeepsFifoAccount : Run → Type 0
+KeepsFifoAccount run =
     (side : Side) (start : ℕ) (memory : List ℕ) (steps : List Step)
     → (let r = run resetState start memory steps in let t = tally side (r .events) in t .letIn ≡ t .handedOut ++ held side (r .state))
+
+abbrev pub FifoAccount : Type 0
+FifoAccount = KeepsFifoAccount run
 
 -- `mail-account`: of the thirty-two mailbox bytes, one is full exactly if the latest of its owner's writes, the other side's reads, mailbox clears and resets,
 -- all of them done, was a write

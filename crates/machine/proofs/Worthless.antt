@@ -1,0 +1,57 @@
+-- The four worthless models fail the marked examples, and two of them the FIFO account.
+use Prim.Native.Nat.{ℕ, suc}
+use mathlib.Core.Path.{_≡_, sym, ap, _∙_}
+use mathlib.Core.List.{List, [], _∷_, _++_, head-eq-of-cons-eq}
+use native.Mathlib.Omega.{arith}
+use lib.ListN.{getD}
+use Rattle.machine.specs.Sides.{pci}
+use Rattle.machine.specs.State.{resetState}
+use Rattle.machine.specs.Step.{computing}
+use Rattle.machine.specs.Run.{Run}
+use Rattle.machine.specs.Examples.{Seen, Meets, marked, got, ok, pciRead, pciWrite, addonRead, writeCycle, zeros}
+use Rattle.machine.specs.Theorems.{KeepsFifoAccount}
+use Rattle.machine.specs.Worthless.{refusing, constant, still, firstOnly, RefusingFails, ConstantFails, StillFails, FirstOnlyFails, ConstantBreaks, StillBreaks}
+use Rattle.machine.specs.declared.Step.{Step}
+use Rattle.machine.specs.declared.Answer.{Answer}
+
+-- the answer to step j in row i of a table
+abbrev answerAt : ℕ → ℕ → List Seen → Answer
+answerAt i j rows = getD (getD rows i (record { answers = []; words = [] }) .answers) j ok
+
+-- example 1 is done
+pub refusing-fails : RefusingFails
+refusing-fails code h =
+    let e : suc (code resetState 0 zeros (pciRead 0x3C)) ≡ 0 = ap (λ (rows : List Seen). answerAt 0 0 rows .code) h in omega arith
+
+-- examples 1 and 2 show different data
+pub constant-fails : ConstantFails
+constant-fails answer next h =
+    let first : answer .value ≡ 0xE6 = ap (λ (rows : List Seen). answerAt 0 0 rows .value) h in
+    let second : answer .value ≡ 0xDF1F = ap (λ (rows : List Seen). answerAt 1 1 rows .value) h in
+    omega arith
+
+-- in example 9 the same cycle answers 13, then 11
+pub still-fails : StillFails
+still-fails answer h =
+    let once : answer resetState 0 zeros writeCycle .code ≡ 13 = ap (λ (rows : List Seen). answerAt 11 4 rows .code) h in
+    let again : answer resetState 0 zeros writeCycle .code ≡ 11 = ap (λ (rows : List Seen). answerAt 11 5 rows .code) h in
+    omega arith
+
+pub first-only-fails : FirstOnlyFails
+first-only-fails echo h =
+    let once : echo writeCycle .code ≡ 13 = ap (λ (rows : List Seen). answerAt 11 4 rows .code) h in
+    let again : echo writeCycle .code ≡ 11 = ap (λ (rows : List Seen). answerAt 11 5 rows .code) h in
+    omega arith
+
+-- a word written and read back is the constant's data, whatever the word
+pub constant-breaks : ConstantBreaks
+constant-breaks answer next done h =
+    let read : (v : ℕ) → v ≡ answer .value = λ v. head-eq-of-cons-eq (rw done at (h pci 0 [] (pciWrite 0x20 v ∷ addonRead 0x20 ∷ []))) in
+    omega (arith, read 1, read 2)
+
+-- a word written is not held
+pub still-breaks : StillBreaks
+still-breaks answer start memory value done h =
+    let lost : value ∷ [] ≡ [] = rw done at (h pci start memory (pciWrite 0x20 value ∷ [])) in
+    let z : _≡_ {A = ℕ} 0 1 = cc in
+    omega arith
