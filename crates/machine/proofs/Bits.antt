@@ -6,7 +6,7 @@ use native.Mathlib.Nat.{mod-lt, div-div-eq-div-mul, pow-suc, mul-comm, mul-one, 
 use native.Mathlib.Omega.{arith}
 use lib.Dec.{eqb, leb, ltb, leb·zero, leb·suc-zero, leb·suc-suc}
 use lib.Bits.{bitAnd, bitOr, and-shr, or-shr, and-step, or-step, shifted-even, shifted-half}
-use borrow.Author.Tests.{eqb-true, eqb-false, eq-eqb, ne-eqb, le-leb, lt-leb, leb-true, leb-false, le-ltb}
+use borrow.Author.Tests.{eqb-true, eqb-false, eq-eqb, ne-eqb, le-leb, lt-leb, leb-true, leb-false, lt-ltb, le-ltb}
 use Rattle.machine.specs.Words.{bit, flag, raised, cleared, only}
 
 -- ---- and, or
@@ -109,6 +109,19 @@ pub bit-cleared : (x y k : ℕ) → y < 2 ^ 32 → k < 32 → bit (cleared x y) 
 unfolding cleared
 bit-cleared x y k h l = bit-and x (2 ^ 32 - 1 - y) k ∙ ap (λ (b : Bool). bit x k && b) (bit-not 32 k y h l)
 
+lt-power : (n : ℕ) → n < 2 ^ n
+lt-power zero = omega arith
+lt-power (suc n) = omega (arith, lt-power n)
+
+-- ones below n
+pub bit-ones : (n k : ℕ) → bit (2 ^ n - 1) k ≡ ltb k n
+unfolding bit
+bit-ones zero k = bit-zero k ∙ sym (le-ltb k 0 (omega arith))
+bit-ones (suc n) zero = let d : (2 ^ suc n - 1) / 1 % 2 ≡ 1 = omega (arith, lt-power n) in rw d (sym (lt-ltb 0 (suc n) (omega arith)))
+bit-ones (suc n) (suc k) =
+    let half : (2 ^ suc n - 1) / 2 ≡ 2 ^ n - 1 = omega (arith, lt-power n) in
+    bit-half (2 ^ suc n - 1) k ∙ rw half (bit-ones n k) ∙ sym (leb·suc-suc (suc k) n)
+
 -- the four lowest bits
 pub bit-low : (e j : ℕ) → bit (e % 16) j ≡ (ltb j 4 && bit e j)
 unfolding bit
@@ -139,10 +152,6 @@ bits-below (suc n) a b ha hb h =
     let low = same-digit (a / 1 % 2) (b / 1 % 2) (omega arith) (omega arith) (h 0) in
     let high = bits-below n (a / 2) (b / 2) (omega arith) (omega arith) (λ k. sym (bit-half a k) ∙ h (suc k) ∙ bit-half b k) in
     omega arith
-
-lt-power : (n : ℕ) → n < 2 ^ n
-lt-power zero = omega arith
-lt-power (suc n) = omega (arith, lt-power n)
 
 pub by-bits : (a b : ℕ) → ((k : ℕ) → bit a k ≡ bit b k) → a ≡ b
 by-bits a b h = bits-below (a + b) a b (omega (arith, lt-power (a + b))) (omega (arith, lt-power (a + b))) h

@@ -31,7 +31,7 @@ pick : (f : ℕ → Bool) (q : ℕ) → q < 4 → (f 0 && eqb q 0 || f 1 && eqb 
 pick f zero h = simp (and-true, and-false, or-false)
 pick f (suc zero) h = simp (and-true, and-false, or-false)
 pick f (suc (suc zero)) h = simp (and-true, and-false, or-false)
-pick f (suc (suc (suc zero))) h = simp (and-true, and-false, or-false)
+pick f (suc (suc (suc zero))) h = simp (and-true, and-false)
 pick f (suc (suc (suc (suc q)))) h = absurd (omega arith)
 
 byte-lt : (b : Bool) (full : ℕ) → full < 2 ^ 32 → cond b full 0 < 2 ^ 32

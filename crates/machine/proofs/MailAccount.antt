@@ -39,7 +39,7 @@ same-half k = by (ltb k 16) refl
     by false e = let l = ltb-false k 16 e in le-ltb (k / 4 * 4) 0x10 (omega arith)
 
 -- a test `by` on the party of an offset's mailbox, and on the mark of its byte k, as a test on k alone
-at-byte : (k : ℕ) → k < 32 → (by : Bool → Bool) (o e : ℕ)
+pub at-byte : (k : ℕ) → k < 32 → (by : Bool → Bool) (o e : ℕ)
     → (by (ltb o 0x10) && isMailbox o && bit (marksAt o e) k) ≡ (by (ltb k 16) && (eqb o (k / 4 * 4) && bit e (k % 4)))
 at-byte k h by o e = here (eqb o (k / 4 * 4)) refl
   where

@@ -19,3 +19,4 @@ pub mod Examples
 pub mod Account
 pub mod Theorems
 pub mod Worthless
+pub mod Readings

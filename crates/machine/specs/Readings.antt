@@ -1,0 +1,89 @@
+-- Sentences of document 01 about bits and bytes, stated bit by bit of the rules that go by masks.
+use Prim.Native.Nat.{ℕ, _+_, _*_, _/_, _%_, _^_, _≤_, _<_, min}
+use mathlib.Core.Path.{_≡_}
+use mathlib.Core.Bool.{Bool, false, cond, not, _&&_, _||_}
+use lib.Dec.{eqb, leb, ltb}
+use lib.ListN.{length}
+use Rattle.machine.specs.Words.{bit, shown, merged, written}
+use Rattle.machine.specs.Sides.{pci, addon}
+use Rattle.machine.specs.State.{State}
+use Rattle.machine.specs.Access.{Access, isRead, isWrite, cycles, isReset}
+use Rattle.machine.specs.Mailboxes.{marksAfter}
+use Rattle.machine.specs.Mcsr.{mcsrKept, mcsrRead}
+use Rattle.machine.specs.Cycles.{addressKept, countKept, lowEnables}
+use Rattle.machine.specs.Intcsr.{intcsrKept, intcsrEvents, intcsrWritten, lineOf, intcsrRead}
+use Rattle.machine.specs.Code.{isOutOfForm}
+use Rattle.machine.specs.Step.{doneState}
+
+-- `shown-bits`: bytes that are not enabled are zero in a read answer; byte k / 8 has bit k
+abbrev pub ShownBits : Type 0
+ShownBits = (k : ℕ) → k < 32 → (x enables : ℕ) → bit (shown x enables) k ≡ (bit x k && bit enables (k / 8))
+
+-- `merged-bits`: a write takes the enabled bytes only
+abbrev pub MergedBits : Type 0
+MergedBits = (k : ℕ) → k < 32 → (old new enables : ℕ) → bit (merged old new enables) k ≡ cond (bit enables (k / 8)) (bit new k) (bit old k)
+
+-- `written-bits`: and a register keeps its bits of it
+abbrev pub WrittenBits : Type 0
+WrittenBits =
+    (k : ℕ) → k < 32 → (keeps old new enables : ℕ)
+    → bit (written keeps old new enables) k ≡ (cond (bit enables (k / 8)) (bit new k) (bit old k) && bit keeps k)
+
+-- `kept-bits`: addresses keep bits 31 to 2, counts 25 to 0, INTCSR 0 to 4, 8 to 12, 14, 15, MCSR 15 to 12 and 10 to 8; events are 16 to 21
+pub record KeptBits (k : ℕ) : Type 0 where
+  pub address : bit addressKept k ≡ leb 2 k
+  pub count : bit countKept k ≡ leb k 25
+  pub intcsr : bit intcsrKept k ≡ (leb k 4 || leb 8 k && leb k 12 || eqb k 14 || eqb k 15)
+  pub events : bit intcsrEvents k ≡ (leb 16 k && leb k 21)
+  pub mcsr : bit mcsrKept k ≡ (leb 12 k && leb k 15 || leb 8 k && leb k 10)
+
+-- `low-enables`: the lowest n enables, n the lesser of 4 and the count
+abbrev pub LowEnables : Type 0
+LowEnables = (count i : ℕ) → bit (lowEnables count) i ≡ ltb i (min 4 count)
+
+-- `intcsr-written-bits`: a kept bit is written where its byte is enabled; one of 16 to 21 is cleared by a one written where its byte is enabled; no other is held
+abbrev pub IntcsrWrittenBits : Type 0
+IntcsrWrittenBits =
+    (k : ℕ) → k < 32 → (old new enables : ℕ)
+    → bit (intcsrWritten old new enables) k
+    ≡ (cond (bit enables (k / 8)) (bit new k) (bit old k) && bit intcsrKept k || bit old k && bit intcsrEvents k && not (bit new k && bit enables (k / 8)))
+
+-- `intcsr-read-bits`: INTCSR reads as held, and bit 23 is the line
+abbrev pub IntcsrReadBits : Type 0
+IntcsrReadBits = (i k : ℕ) → bit (intcsrRead i) k ≡ (bit i k || lineOf i && eqb k 23)
+
+-- `mcsr-read-bits`: MCSR of a state in form reads the kept bits, and the status in bits 7 to 0
+pub record McsrStatus (st : State) : Type 0 where
+  pub writeCountZero : bit (mcsrRead st) 7 ≡ eqb (st .fromAddon .count) 0
+  pub readCountZero : bit (mcsrRead st) 6 ≡ eqb (st .fromPci .count) 0
+  pub addonEmpty : bit (mcsrRead st) 5 ≡ eqb (length (st .fromAddon .words)) 0
+  pub addonFourHeld : bit (mcsrRead st) 4 ≡ leb 4 (length (st .fromAddon .words))
+  pub addonFull : bit (mcsrRead st) 3 ≡ leb 8 (length (st .fromAddon .words))
+  pub pciEmpty : bit (mcsrRead st) 2 ≡ eqb (length (st .fromPci .words)) 0
+  pub pciFourFree : bit (mcsrRead st) 1 ≡ leb (length (st .fromPci .words)) 4
+  pub pciFull : bit (mcsrRead st) 0 ≡ leb 8 (length (st .fromPci .words))
+  pub others : (k : ℕ) → 8 ≤ k → bit (mcsrRead st) k ≡ bit (st .mcsr) k
+
+abbrev pub McsrReadBits : Type 0
+McsrReadBits = (st : State) → isOutOfForm st ≡ false → McsrStatus st
+
+-- a one is written to bit k of INTCSR, its byte enabled
+abbrev pub acknowledges : ℕ → Access → Bool
+acknowledges k x = isWrite pci (x .kind) && eqb (x .offset) 0x38 && bit (x .enables) (k / 8) && bit (x .value) k
+
+-- What sets bit k of INTCSR. 16: the Add-On reads, of the outgoing mailbox that bits 3:2 choose, the byte that 1:0 choose, while bit 4 is set.
+-- 17: the Add-On writes, of the incoming mailbox that bits 11:10 choose, the byte that 9:8 choose, while bit 12 is set.
+-- 18 and 19: a write or a read cycle whose count is at most 4.
+abbrev pub sets : ℕ → State → Access → Bool
+sets k st x =
+    let i = st .intcsr in
+    eqb k 16 && (isRead addon (x .kind) && (bit i 4 && (eqb (x .offset) (i / 2 ^ 2 % 4 * 4) && bit (x .enables) (i % 4))))
+    || eqb k 17 && (isWrite addon (x .kind) && (bit i 12 && (eqb (x .offset) (0x10 + i / 2 ^ 10 % 4 * 4) && bit (x .enables) (i / 2 ^ 8 % 4))))
+    || eqb k 18 && (cycles addon (x .kind) && leb (st .fromAddon .count) 4)
+    || eqb k 19 && (cycles pci (x .kind) && leb (st .fromPci .count) 4)
+
+-- `event-rule`: after a done step that is no reset, each of bits 16 to 21 is set if something sets it, or it was and no one acknowledges it
+abbrev pub EventRule : Type 0
+EventRule =
+    (k : ℕ) → 16 ≤ k → k ≤ 21 → (st : State) (x : Access) (word : ℕ) → isReset (x .kind) ≡ false
+    → bit (doneState st x word .intcsr) k ≡ (bit (st .intcsr) k && not (acknowledges k x) || sets k st x)
