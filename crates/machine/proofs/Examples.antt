@@ -1,9 +1,13 @@
--- The ten marked examples hold, by computing them.
+-- The ten marked examples, and the cases beside them, by computing them.
 use mathlib.Core.Path.{refl}
 use Rattle.machine.specs.Step.{computing}
-use Rattle.machine.specs.Run.{run}
-use Rattle.machine.specs.Examples.{Meets, marked}
+use Rattle.machine.specs.Examples.{MarkedHold}
+use Rattle.machine.specs.Neighbours.{NeighboursHold}
 
-pub marked-hold : Meets run marked
+pub marked-hold : MarkedHold
 unfolding computing
 marked-hold = refl
+
+pub neighbours-hold : NeighboursHold
+unfolding computing
+neighbours-hold = refl

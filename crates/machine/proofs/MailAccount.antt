@@ -46,6 +46,7 @@ at-byte k h by o e = here (eqb o (k / 4 * 4)) refl
     elsewhere : (m : Bool) → isMailbox o ≡ m → eqb o (k / 4 * 4) ≡ false → (by (ltb o 0x10) && m && bit (marksAt o e) k) ≡ false
     elsewhere true p q = rw (bit-marks o e k p, q) (and-false (by (ltb o 0x10) && true))
     elsewhere false p q = rw (and-false (by (ltb o 0x10)))
+
     here : (b : Bool) → eqb o (k / 4 * 4) ≡ b → (by (ltb o 0x10) && isMailbox o && bit (marksAt o e) k) ≡ (by (ltb k 16) && (b && bit e (k % 4)))
     here true q =
         let p : o ≡ k / 4 * 4 = eqb-true o (k / 4 * 4) q in

@@ -24,6 +24,7 @@ bit-marks o e k m =
   where
     four : o % 4 ≡ 0
     four = eqb-true (o % 4) 0 (and-right (ltb o 0x20) (eqb (o % 4) 0) m)
+
     at : (b : Bool) → eqb o (k / 4 * 4) ≡ b → (c : Bool) → leb o k ≡ c → (c && (ltb (k - o) 4 && bit e (k - o))) ≡ (b && bit e (k % 4))
     at true q true p =
         let i = eqb-true o (k / 4 * 4) q in

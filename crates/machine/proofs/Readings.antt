@@ -77,9 +77,20 @@ module _ (st : State) (form : isOutOfForm st ≡ false) where
   above : (k : ℕ) → 8 ≤ k → bit (mcsrStatus st) k ≡ false
   unfolding mcsrStatus fifoStatus
   above k h =
-      simp
-      (bit-or, bit-flag, bit-shl, ne-eqb k 7 (λ q. omega arith), ne-eqb k 6 (λ q. omega arith), ne-eqb k 2 (λ q. omega arith), ne-eqb k 1 (λ q. omega arith),
-      ne-eqb k 0 (λ q. omega arith), ne-eqb (k - 3) 2 (λ q. omega arith), ne-eqb (k - 3) 1 (λ q. omega arith), ne-eqb (k - 3) 0 (λ q. omega arith), and-false)
+      simp (
+        bit-or,
+        bit-flag,
+        bit-shl,
+        ne-eqb k 7 (λ q. omega arith),
+        ne-eqb k 6 (λ q. omega arith),
+        ne-eqb k 2 (λ q. omega arith),
+        ne-eqb k 1 (λ q. omega arith),
+        ne-eqb k 0 (λ q. omega arith),
+        ne-eqb (k - 3) 2 (λ q. omega arith),
+        ne-eqb (k - 3) 1 (λ q. omega arith),
+        ne-eqb (k - 3) 0 (λ q. omega arith),
+        and-false,
+      )
 
   status : McsrStatus st
   unfolding mcsrRead mcsrStatus fifoStatus bit

@@ -57,8 +57,10 @@ module _ (m : ℕ) where
     where
       here : (c : ℕ) (b d : Bool) → eqb c c ≡ true → cond (eqb c c) b d ≡ b
       here c b d e = rw e
+
       past : (k c : ℕ) (b d : Bool) → suc k ≤ c → cond (eqb k c) b d ≡ d
       past k c b d p = rw (ne-eqb k c (λ q. omega arith))
+
       go : (k : ℕ) (b : Bool) → suc n ≤ k → rising (suc k) m ts ≡ true → Lowest (firstOf ts) ts → Lowest (cond b k (firstOf ts)) ((k, b) ∷ ts)
       go k true p r low =
           record {
@@ -132,6 +134,7 @@ aborted-address st s = by (s .kind)
 pub aborted : Aborted
 unfolding stepOf respond stateAfter memoryAfter answered replyOf
 aborted st start memory s e =
-    let after : stepOf st start memory s .state ≡ abortedState st = rw e in
-    (rw after (abort-only st),
-    (rw e, rw e (λ i. record { code = 13; address = aborted-address st s i .address; value = aborted-address st s i .value; enables = aborted-address st s i .enables; line = aborted-line st i })))
+    let after : stepOf st start memory s .state ≡ abortedState st = rw e in (
+      rw after (abort-only st),
+      (rw e, rw e (λ i. record { code = 13; address = aborted-address st s i .address; value = aborted-address st s i .value; enables = aborted-address st s i .enables; line = aborted-line st i })),
+    )

@@ -6,7 +6,7 @@ use mathlib.Core.List.{List, [], _∷_, _++_, map}
 use lib.ListN.{getD, set, replicate}
 use Rattle.machine.specs.State.{State, resetState}
 use Rattle.machine.specs.Event.{Event}
-use Rattle.machine.specs.Run.{Ran, Run}
+use Rattle.machine.specs.Run.{Run, run}
 use Rattle.machine.specs.declared.Step.{Step}
 use Rattle.machine.specs.declared.Answer.{Answer}
 
@@ -28,13 +28,13 @@ abbrev pub expected : Example → Seen
 expected e = record { answers = e .answers; words = e .words }
 
 abbrev pub got : Run → Example → Seen
-got run e =
-    let r = run (e .state) (e .start) (e .memory) (e .steps) in
+got model e =
+    let r = model (e .state) (e .start) (e .memory) (e .steps) in
     record { answers = map (λ (v : Event). v .answer) (r .events); words = map (λ k. getD (r .memory) k 0) (e .places) }
 
 -- a run shows what every example of a table expects
 abbrev pub Meets : Run → List Example → Type 0
-Meets run table = map (got run) table ≡ map expected table
+Meets model table = map (got model) table ≡ map expected table
 
 -- ---- steps and answers by name
 
@@ -158,3 +158,7 @@ marked =
     ∷ writeCycle ∷ [])
     (ok ∷ ok ∷ ok ∷ ok ∷ ok ∷ refuses 12 ∷ ok ∷ moves 0 1 0xF ∷ [])
     ∷ []
+
+-- `marked-hold`: the machine meets them all
+abbrev pub MarkedHold : Type 0
+MarkedHold = Meets run marked

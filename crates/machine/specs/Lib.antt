@@ -20,3 +20,4 @@ pub mod Account
 pub mod Theorems
 pub mod Worthless
 pub mod Readings
+pub mod Neighbours

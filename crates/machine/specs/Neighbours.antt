@@ -1,0 +1,184 @@
+-- Cases beside the marked examples: sentences of document 01 that the ten do not reach, as a second table of the same form.
+use Prim.Native.Nat.{ℕ}
+use mathlib.Core.List.{List, [], _∷_, _++_, map}
+use lib.ListN.{set, replicate}
+use Rattle.machine.specs.State.{State, Lane, resetState, resetLane}
+use Rattle.machine.specs.Run.{run}
+use Rattle.machine.specs.Examples.{Example, Meets, stepBy, pciRead, pciWrite, addonRead, addonWrite, writeCycle, readCycle, says, ok, moves, refuses, absent, high, zeros, example}
+use Rattle.machine.specs.declared.Step.{Step}
+use Rattle.machine.specs.declared.Answer.{Answer}
+
+-- a case that begins in a state, over a window
+abbrev pub case : State → ℕ → List ℕ → List Step → List Answer → Example
+case state start memory steps answers =
+    record { state = state; start = start; memory = memory; steps = steps; answers = answers; places = []; words = [] }
+
+-- a lane, and a state with an abort standing: its interrupt line is high
+abbrev pub laneOf : List ℕ → ℕ → ℕ → Lane
+laneOf words address count = record { words = words; address = address; count = count }
+
+abbrev pub stateOf : Lane → Lane → ℕ → ℕ → State
+stateOf fromPci fromAddon intcsr mcsr =
+    record { mail = replicate 8 0; marks = 0; fromPci = fromPci; fromAddon = fromAddon; intcsr = intcsr; mcsr = mcsr }
+
+abbrev pub abortStanding : State
+abortStanding = stateOf resetLane resetLane 0x100000 0
+
+-- ---- codes 1 and 2: of every kind, chip reset and unknown ones too; the line is zero for 1, the state's for 2
+
+abbrev pub anyKinds : List Step
+anyKinds = pciRead 0x34 ∷ writeCycle ∷ stepBy 6 0 0 0 ∷ stepBy 7 0 0 0 ∷ []
+
+abbrev pub sameFour : Answer → List Answer
+sameFour a = a ∷ a ∷ a ∷ a ∷ []
+
+abbrev pub outOfForm : List State
+outOfForm =
+    stateOf (laneOf (replicate 9 0) 0 0) resetLane 0x100000 0 ∷ stateOf resetLane (laneOf (replicate 9 0) 0 0) 0x100000 0
+    ∷ stateOf (laneOf [] 2 0) resetLane 0x100000 0 ∷ stateOf resetLane (laneOf [] 0x101 0) 0x100000 0
+    ∷ stateOf (laneOf [] 0 0x04000000) resetLane 0x100000 0 ∷ stateOf resetLane (laneOf [] 0 0xFFFFFFFF) 0x100000 0
+    ∷ stateOf resetLane resetLane 0x100020 0 ∷ stateOf resetLane resetLane 0x102000 0 ∷ stateOf resetLane resetLane 0x900000 0
+    ∷ stateOf resetLane resetLane 0x100000 0x800 ∷ stateOf resetLane resetLane 0x100000 0x80 ∷ stateOf resetLane resetLane 0x100000 0x08000000 ∷ []
+
+abbrev pub formCases : List Example
+formCases = map (λ st. case st 0 zeros anyKinds (sameFour (refuses 1))) outOfForm
+
+-- as full as form allows, so a chip reset is done; the window's faults; the largest window and the empty one
+abbrev pub windowCases : List Example
+windowCases =
+    case (stateOf (laneOf (replicate 8 0) 0xFFFFFFFC 0x03FFFFFF) (laneOf (replicate 8 0) 4 1) 0x3FDF1F 0xF700) 0 zeros (stepBy 6 0xFF 99 5 ∷ []) (ok ∷ [])
+    ∷ case abortStanding 2 zeros anyKinds (sameFour (high (refuses 2)))
+    ∷ case abortStanding 0 (replicate 16385 0) anyKinds (sameFour (high (refuses 2)))
+    ∷ case resetState 0xFFFFFFFC (replicate 16384 0) (stepBy 6 0 0 0 ∷ []) (ok ∷ [])
+    ∷ case (stateOf (laneOf [] 0 4) (laneOf (7 ∷ []) 0 4) 0 0x4400) 0 [] (writeCycle ∷ stepBy 6 0 0 0 ∷ []) (absent 0 ∷ ok ∷ [])
+    -- a window that wraps: four words from FFFFFFF8
+    ∷ record {
+      state = stateOf resetLane (laneOf (1 ∷ 2 ∷ 3 ∷ []) 0xFFFFFFFC 12) 0 0x400;
+      start = 0xFFFFFFF8;
+      memory = replicate 4 9;
+      steps = writeCycle ∷ writeCycle ∷ writeCycle ∷ pciRead 0x24 ∷ [];
+      answers = moves 0xFFFFFFFC 1 0xF ∷ moves 0 2 0xF ∷ moves 4 3 0xF ∷ says 8 ∷ [];
+      places = 0 ∷ 1 ∷ 2 ∷ 3 ∷ [];
+      words = 9 ∷ 1 ∷ 2 ∷ 3 ∷ [];
+    }
+    -- below the start there is no memory
+    ∷ case (stateOf resetLane (laneOf (1 ∷ []) 0xFC 4) 0 0x400) 0x100 zeros (writeCycle ∷ []) (absent 0xFC ∷ [])
+    ∷ []
+
+-- ---- codes 3 to 8, lowest first
+
+abbrev pub accessCases : List Example
+accessCases =
+    -- kinds above 6
+    example (stepBy 7 0 0 0 ∷ stepBy 0xFFFFFFFF 0xFF 99 0 ∷ []) (refuses 3 ∷ refuses 3 ∷ [])
+    -- offsets that are not in the side's table, before the enables
+    ∷ example
+    (pciRead 0x40 ∷ pciRead 0x01 ∷ pciWrite 0x22 0 ∷ stepBy 0 0x41 16 0 ∷ addonRead 0x24 ∷ addonRead 0x38 ∷ addonWrite 0x3C 0 ∷ addonRead 0x03 ∷ [])
+    (refuses 4 ∷ refuses 4 ∷ refuses 4 ∷ refuses 4 ∷ refuses 4 ∷ refuses 4 ∷ refuses 4 ∷ refuses 4 ∷ [])
+    -- enables above 15, before part FIFO accesses and read-only registers
+    ∷ example (stepBy 0 0 16 0 ∷ stepBy 1 0x34 16 0 ∷ stepBy 2 0x20 31 0 ∷ []) (refuses 5 ∷ refuses 5 ∷ refuses 5 ∷ [])
+    -- part FIFO accesses, before empty
+    ∷ example (stepBy 0 0x20 0 0 ∷ stepBy 1 0x20 7 0 ∷ stepBy 2 0x20 14 0 ∷ stepBy 3 0x20 1 0 ∷ []) (refuses 6 ∷ refuses 6 ∷ refuses 6 ∷ refuses 6 ∷ [])
+    -- read-only registers, also with enables of 0
+    ∷ example
+    (pciWrite 0x10 1 ∷ stepBy 1 0x1C 0 1 ∷ pciWrite 0x34 1 ∷ addonWrite 0x00 1 ∷ stepBy 3 0x0C 0 1 ∷ addonWrite 0x34 1 ∷ pciRead 0x34 ∷ [])
+    (refuses 7 ∷ refuses 7 ∷ refuses 7 ∷ refuses 7 ∷ refuses 7 ∷ refuses 7 ∷ says 0 ∷ [])
+    -- empty FIFOs
+    ∷ example (pciRead 0x20 ∷ addonRead 0x20 ∷ []) (refuses 8 ∷ refuses 8 ∷ [])
+    ∷ []
+
+-- ---- mailboxes
+
+abbrev pub mailCases : List Example
+mailCases =
+    -- the owner's read changes no mark, the other side's read empties the enabled bytes, an empty byte reads as last stored, a write takes enabled bytes
+    example
+    (pciWrite 0x04 0x11223344 ∷ pciRead 0x04 ∷ pciRead 0x34 ∷ stepBy 2 0x04 5 0 ∷ addonRead 0x34 ∷ addonRead 0x04 ∷ pciRead 0x34 ∷ stepBy 1 0x04 2 0xAABBCCDD
+    ∷ pciRead 0x04 ∷ pciRead 0x34 ∷ [])
+    (ok ∷ says 0x11223344 ∷ says 0xF0 ∷ says 0x220044 ∷ says 0xA0 ∷ says 0x11223344 ∷ says 0 ∷ ok ∷ says 0x1122CC44 ∷ says 0x20 ∷ [])
+    -- the highest bytes of both halves; enables of 0 do nothing
+    ∷ example
+    (stepBy 1 0x0C 8 0x5A000000 ∷ stepBy 3 0x1C 8 0xC3000000 ∷ addonRead 0x34 ∷ stepBy 1 0x00 0 0xFF ∷ stepBy 2 0x0C 0 0 ∷ stepBy 0 0x34 8 0 ∷ addonRead 0x1C
+    ∷ pciRead 0x34 ∷ [])
+    (ok ∷ ok ∷ says 0x80008000 ∷ ok ∷ ok ∷ says 0x80000000 ∷ says 0xC3000000 ∷ says 0x80008000 ∷ [])
+    -- MCSR 27 marks every byte empty, where its byte is enabled; the bytes stay
+    ∷ example
+    (pciWrite 0x08 6 ∷ addonWrite 0x14 7 ∷ stepBy 1 0x3C 7 0x08000000 ∷ pciRead 0x34 ∷ stepBy 1 0x3C 8 0x08000000 ∷ pciRead 0x34 ∷ addonRead 0x08 ∷ pciRead 0x3C ∷ [])
+    (ok ∷ ok ∷ ok ∷ says 0x00F00F00 ∷ ok ∷ says 0 ∷ says 6 ∷ says 0xE6 ∷ [])
+    ∷ []
+
+-- ---- FIFOs and cycles
+
+abbrev pub cycleCases : List Example
+cycleCases =
+    -- MCSR 25 empties the PCI-to-Add-On FIFO only, 26 the other, where their byte is enabled
+    example
+    (pciWrite 0x20 1 ∷ addonWrite 0x20 2 ∷ stepBy 1 0x3C 7 0x06000000 ∷ stepBy 1 0x3C 8 0x02000000 ∷ pciRead 0x3C ∷ addonRead 0x20 ∷ stepBy 1 0x3C 8 0x04000000
+    ∷ pciRead 0x20 ∷ [])
+    (ok ∷ ok ∷ ok ∷ ok ∷ says 0xC6 ∷ refuses 8 ∷ ok ∷ refuses 8 ∷ [])
+    -- read cycles with count 6: the second lets in two bytes; the count's zero sets 19, whose line 15 enables
+    ∷ case resetState 0 (set (set zeros 0xFFE 0x11223344) 0xFFF 0x55667788)
+    (pciWrite 0x2C 0x3FF8 ∷ pciWrite 0x30 6 ∷ pciWrite 0x3C 0x4000 ∷ readCycle ∷ readCycle ∷ readCycle ∷ pciRead 0x38 ∷ pciRead 0x2C ∷ pciRead 0x30
+    ∷ addonRead 0x20 ∷ addonRead 0x20 ∷ pciWrite 0x38 0x8000 ∷ pciRead 0x38 ∷ [])
+    (ok ∷ ok ∷ ok ∷ moves 0x3FF8 0x11223344 0xF ∷ moves 0x3FFC 0x7788 0x3 ∷ refuses 10 ∷ says 0x80000 ∷ says 0x4000 ∷ says 0
+    ∷ says 0x11223344 ∷ says 0x7788 ∷ high ok ∷ high (says 0x888000) ∷ [])
+    -- MCSR 13: room for four is needed; five words held, then four
+    ∷ example
+    (pciWrite 0x30 8 ∷ pciWrite 0x3C 0x6000 ∷ pciWrite 0x20 1 ∷ pciWrite 0x20 2 ∷ pciWrite 0x20 3 ∷ pciWrite 0x20 4 ∷ pciWrite 0x20 5 ∷ readCycle
+    ∷ addonRead 0x20 ∷ readCycle ∷ pciRead 0x3C ∷ [])
+    (ok ∷ ok ∷ ok ∷ ok ∷ ok ∷ ok ∷ ok ∷ refuses 12 ∷ says 1 ∷ moves 0 0 0xF ∷ says 0x60A0 ∷ [])
+    -- transfers off, counts zero, FIFOs not ready; cycles ignore their offset, enables and data
+    ∷ example
+    (writeCycle ∷ readCycle ∷ pciWrite 0x3C 0x4400 ∷ stepBy 4 0xFF 99 7 ∷ readCycle ∷ pciWrite 0x28 4 ∷ writeCycle ∷ [])
+    (refuses 9 ∷ refuses 9 ∷ ok ∷ refuses 10 ∷ refuses 10 ∷ ok ∷ refuses 12 ∷ [])
+    -- the lowest first: off before count, count before abort, abort before ready
+    ∷ case abortStanding 0 [] (writeCycle ∷ pciWrite 0x3C 0x400 ∷ writeCycle ∷ pciWrite 0x28 4 ∷ writeCycle ∷ [])
+    (high (refuses 9) ∷ high ok ∷ high (refuses 10) ∷ high ok ∷ high (refuses 11) ∷ [])
+    -- part writes of addresses and counts; a count written zero sets no bit
+    ∷ example
+    (stepBy 1 0x28 1 0xFFFFFFFF ∷ pciRead 0x28 ∷ stepBy 1 0x30 8 0xFFFFFFFF ∷ pciRead 0x30 ∷ stepBy 1 0x2C 5 0x12345677 ∷ pciRead 0x2C ∷ stepBy 0 0x2C 4 0
+    ∷ pciWrite 0x28 0 ∷ pciRead 0x38 ∷ [])
+    (ok ∷ says 0xFF ∷ ok ∷ says 0x03000000 ∷ ok ∷ says 0x340074 ∷ says 0x340000 ∷ ok ∷ says 0 ∷ [])
+    -- a chip reset leaves host memory and zeroes the rest
+    ∷ record {
+      state = stateOf (laneOf (1 ∷ []) 4 1) (laneOf (2 ∷ []) 8 2) 0x10DF1F 0xF700;
+      start = 0;
+      memory = 5 ∷ 6 ∷ [];
+      steps = pciWrite 0x00 9 ∷ stepBy 6 0 0 0 ∷ pciRead 0x00 ∷ pciRead 0x34 ∷ pciRead 0x38 ∷ pciRead 0x3C ∷ pciRead 0x24 ∷ pciRead 0x2C ∷ [];
+      answers = high ok ∷ ok ∷ says 0 ∷ says 0 ∷ says 0 ∷ says 0xE6 ∷ says 0 ∷ says 0 ∷ [];
+      places = 0 ∷ 1 ∷ [];
+      words = 5 ∷ 6 ∷ [];
+    }
+    ∷ []
+
+-- ---- events and the line
+
+abbrev pub eventCases : List Example
+eventCases =
+    -- outgoing mailbox 2 byte 1 is chosen: an Add-On read of another byte or mailbox, or a PCI read, is no event; it lowers with its enable
+    example
+    (pciWrite 0x38 0x15 ∷ pciWrite 0x04 0 ∷ stepBy 2 0x04 13 0 ∷ addonRead 0x00 ∷ pciRead 0x04 ∷ stepBy 2 0x04 2 0 ∷ pciRead 0x38 ∷ stepBy 1 0x38 3 0x10005
+    ∷ stepBy 1 0x38 4 0x10000 ∷ pciRead 0x38 ∷ addonRead 0x04 ∷ pciRead 0x38 ∷ [])
+    (ok ∷ ok ∷ ok ∷ ok ∷ ok ∷ high ok ∷ high (says 0x810015) ∷ ok ∷ ok ∷ says 0x5 ∷ ok ∷ says 0x5 ∷ [])
+    -- incoming mailbox 4 byte 2 is chosen: an Add-On write of it is the event, a PCI read is none
+    ∷ example
+    (pciWrite 0x38 0x1E00 ∷ stepBy 3 0x1C 11 0 ∷ addonWrite 0x18 0 ∷ pciRead 0x1C ∷ stepBy 3 0x1C 4 0 ∷ pciRead 0x38 ∷ pciWrite 0x38 0x20000 ∷ addonWrite 0x1C 0 ∷ [])
+    (ok ∷ ok ∷ ok ∷ ok ∷ high ok ∷ high (says 0x821E00) ∷ ok ∷ ok ∷ [])
+    -- a flag without its enable is no line: 16 with 4, 17 with 12, 18 with 14, 19 with 15; 20 and 21 by themselves
+    ∷ case (stateOf resetLane resetLane 0xE0F1F 0) 0 [] (pciRead 0x34 ∷ []) (says 0 ∷ [])
+    ∷ case (stateOf resetLane resetLane 0xD1F0F 0) 0 [] (pciRead 0x34 ∷ []) (says 0 ∷ [])
+    ∷ case (stateOf resetLane resetLane 0xB4F0F 0) 0 [] (pciRead 0x34 ∷ []) (says 0 ∷ [])
+    ∷ case (stateOf resetLane resetLane 0x78F0F 0) 0 [] (pciRead 0x34 ∷ []) (says 0 ∷ [])
+    ∷ case (stateOf resetLane resetLane 0x10010 0) 0 [] (pciRead 0x34 ∷ []) (high (says 0) ∷ [])
+    ∷ case (stateOf resetLane resetLane 0x21000 0) 0 [] (pciRead 0x34 ∷ []) (high (says 0) ∷ [])
+    ∷ case (stateOf resetLane resetLane 0x44000 0) 0 [] (pciRead 0x34 ∷ []) (high (says 0) ∷ [])
+    ∷ case (stateOf resetLane resetLane 0x88000 0) 0 [] (pciRead 0x34 ∷ []) (high (says 0) ∷ [])
+    ∷ case (stateOf resetLane resetLane 0x200000 0x400) 0 [] (pciWrite 0x28 4 ∷ writeCycle ∷ pciWrite 0x38 0x200000 ∷ []) (high ok ∷ high (refuses 11) ∷ ok ∷ [])
+    ∷ []
+
+abbrev pub neighbours : List Example
+neighbours = formCases ++ windowCases ++ accessCases ++ mailCases ++ cycleCases ++ eventCases
+
+-- `neighbours-hold`: the machine meets these too
+abbrev pub NeighboursHold : Type 0
+NeighboursHold = Meets run neighbours
