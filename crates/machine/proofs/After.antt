@@ -1,5 +1,5 @@
 -- A part of the state after any step, by what a reset, a done step, an abort and a refusal leave of it.
-use Prim.Native.Nat.{ℕ, zero, suc}
+use Prim.Native.Nat.{ℕ, suc}
 use mathlib.Core.Path.{_≡_, refl, _∙_}
 use mathlib.Core.Bool.{Bool, true, false, cond, _||_}
 use lib.Dec.{eqb, eqb·suc-zero}

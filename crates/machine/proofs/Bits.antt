@@ -1,12 +1,12 @@
 -- The bits of what the operations on words make. A number is its bits.
-use Prim.Native.Nat.{ℕ, zero, suc, _+_, _-_, _*_, _/_, _%_, _^_, _<_, _≤_, min, max}
+use Prim.Native.Nat.{ℕ, zero, suc, _+_, _-_, _*_, _/_, _%_, _^_, _<_, min, max}
 use mathlib.Core.Path.{_≡_, refl, sym, ap, ap₂, _∙_}
-use mathlib.Core.Bool.{Bool, true, false, cond, not, _&&_, _||_, or-false, and-assoc, and-comm, and-or-distrib-right}
+use mathlib.Core.Bool.{Bool, true, false, not, _&&_, _||_, or-false, and-assoc, and-comm, and-or-distrib-right}
 use native.Mathlib.Nat.{mod-lt, div-div-eq-div-mul, pow-suc, mul-comm, mul-one, one-mul, sub-zero, suc-sub-suc, zero-div}
 use native.Mathlib.Omega.{arith}
 use lib.Dec.{eqb, leb, ltb, leb·zero, leb·suc-zero, leb·suc-suc}
 use lib.Bits.{bitAnd, bitOr, and-shr, or-shr, and-step, or-step, shifted-even, shifted-half}
-use borrow.Author.Tests.{eqb-true, eqb-false, eq-eqb, ne-eqb, le-leb, lt-leb, leb-true, leb-false, lt-ltb, le-ltb}
+use borrow.Author.Tests.{eqb-true, eqb-false, eq-eqb, ne-eqb, leb-true, leb-false, lt-ltb, le-ltb}
 use Rattle.machine.specs.Words.{bit, flag, raised, cleared, only}
 
 -- ---- and, or

@@ -1,11 +1,11 @@
 -- The bits of masks, shown, merged and written words.
-use Prim.Native.Nat.{ℕ, zero, suc, _-_, _*_, _/_, _^_, _<_}
-use mathlib.Core.Path.{_≡_, refl, sym, ap, _∙_}
+use Prim.Native.Nat.{ℕ, zero, suc, _/_, _^_, _<_}
+use mathlib.Core.Path.{_≡_, refl, _∙_}
 use mathlib.Core.Bool.{Bool, true, false, cond, not, _&&_, _||_, and-true, and-false, or-false}
 use mathlib.Core.List.{List, [], _∷_, head-eq-of-cons-eq, tail-eq-of-cons-eq}
 use native.Mathlib.Omega.{arith}
 use lib.Dec.{eqb}
-use lib.Bits.{bitAnd, bitOr, or-lt, and-le-r}
+use lib.Bits.{or-lt, and-le-r}
 use borrow.Author.Tests.{eqb-true, eqb-false}
 use Rattle.machine.specs.Words.{bit, ones, byteMask, mask, shown, merged, written}
 use Rattle.machine.proofs.Bits.{bit-or, bit-and, bit-zero, bit-cleared}

@@ -1,20 +1,20 @@
 -- A step leaves a state in form in form; so from reset no step answers 1.
-use Prim.Native.Nat.{ℕ, zero, suc, _+_, _-_, _*_, _/_, _%_, _^_, _≤_, _<_, min}
+use Prim.Native.Nat.{ℕ, zero, suc, _*_, _/_, _%_, _^_, _≤_, _<_}
 use mathlib.Core.Path.{_≡_, refl, sym, ap, _∙_}
-use mathlib.Core.Bool.{Bool, true, false, cond, not, _&&_, _||_, true≢false}
-use mathlib.Core.List.{List, [], _∷_, _++_}
+use mathlib.Core.Bool.{Bool, true, false, cond, not, _&&_, true≢false}
+use mathlib.Core.List.{List, [], _∷_}
 use native.Mathlib.Omega.{arith}
-use lib.Dec.{eqb, leb, ltb, eqb·suc-zero}
+use lib.Dec.{eqb, ltb, eqb·suc-zero}
 use lib.Bits.{bitAnd, and-high, and-le-r}
 use lib.ListN.{length, drop, length-append, length-drop}
-use borrow.Author.Tests.{ltb-false, le-ltb, leb-true, leb-false, eqb-true, eq-eqb, ne-eqb, not-false}
-use Rattle.machine.specs.Words.{bit, only, raised, cleared, shown, merged, written}
+use borrow.Author.Tests.{ltb-false, le-ltb, leb-true, leb-false, eqb-true, eq-eqb, not-false}
+use Rattle.machine.specs.Words.{bit, only, raised, cleared, merged, written}
 use Rattle.machine.specs.Sides.{Side, pci, addon, other, host, card}
-use Rattle.machine.specs.State.{State, Lane, lane, held, resetState}
+use Rattle.machine.specs.State.{State, lane, held, resetState}
 use Rattle.machine.specs.Access.{Access, accessOf, Kind, reading, writing, cycle, chipReset, unknown, isReset, cycles, reads, writes}
 use Rattle.machine.specs.Offsets.{fifoPort, addressAt, countAt, intcsrAt, mcsrAt}
 use Rattle.machine.specs.Commands.{clearsFifo}
-use Rattle.machine.specs.Fifos.{letIn, handedOut, fifoAfter, isEmpty, isFull, cycleFeeds, amount, followed}
+use Rattle.machine.specs.Fifos.{handedOut, fifoAfter, isEmpty, cycleFeeds, amount, followed}
 use Rattle.machine.specs.Mcsr.{mcsrKept, mcsrAfter}
 use Rattle.machine.specs.Cycles.{needed, isReady, addressKept, countKept, nextAddress, countLeft, runsOut, addressAfter, countAfter, laneAfter}
 use Rattle.machine.specs.Intcsr.{intcsrKept, intcsrEvents, intcsrHeld, intcsrWritten, outgoingEvent, incomingEvent, countBit, intcsrAfter, intcsrAborted}

@@ -1,17 +1,17 @@
 -- The mailbox account.
 use Prim.Native.Nat.{ℕ, zero, suc, _*_, _/_, _%_, _<_}
 use mathlib.Core.Path.{_≡_, refl, sym, ap, _∙_}
-use mathlib.Core.Bool.{Bool, true, false, cond, not, _&&_, _||_, true≢false, and-false}
+use mathlib.Core.Bool.{Bool, true, false, cond, _&&_, _||_, and-false}
 use mathlib.Core.List.{List, [], _∷_}
 use native.Mathlib.Omega.{arith}
 use lib.Dec.{eqb, ltb, eqb·suc-zero}
 use lib.ListN.{length}
 use borrow.Author.Tests.{lt-ltb, le-ltb, eq-eqb, eqb-true, ltb-true, ltb-false}
 use Rattle.machine.specs.Words.{bit}
-use Rattle.machine.specs.Sides.{Party, host, card}
+use Rattle.machine.specs.Sides.{host, card}
 use Rattle.machine.specs.State.{State, resetState}
-use Rattle.machine.specs.Access.{Access, accessOf, Kind, kindOf, isReadBy, isWriteBy, isReset}
-use Rattle.machine.specs.Offsets.{isMailbox, writer, reader}
+use Rattle.machine.specs.Access.{Access, accessOf, isReadBy, isWriteBy, isReset}
+use Rattle.machine.specs.Offsets.{isMailbox}
 use Rattle.machine.specs.Commands.{clearsMarks}
 use Rattle.machine.specs.Mailboxes.{marksAt, fillsByte, takesByte}
 use Rattle.machine.specs.Code.{codeOf}

@@ -1,12 +1,12 @@
 -- The marks one by one, and the mailbox words one by one, after a done step.
-use Prim.Native.Nat.{ℕ, zero, suc, _+_, _-_, _*_, _/_, _%_, _^_, _<_, _≤_}
+use Prim.Native.Nat.{ℕ, _-_, _*_, _/_, _%_, _^_, _<_, _≤_}
 use mathlib.Core.Path.{_≡_, refl, sym, ap, _∙_}
 use mathlib.Core.Bool.{Bool, true, false, cond, not, _&&_, _||_, true≢false, and-false, and-true, or-false}
 use native.Mathlib.Omega.{arith}
 use native.Mathlib.Nat.{mul-le-mul, pow-le-pow-right}
 use lib.Dec.{eqb, leb, ltb}
 use lib.Bits.{bitOr}
-use borrow.Author.Tests.{eqb-true, eqb-false, eq-eqb, ne-eqb, leb-true, leb-false, le-leb, lt-ltb, le-ltb, ltb-true}
+use borrow.Author.Tests.{eqb-true, eqb-false, leb-true, le-leb, lt-ltb, le-ltb, ltb-true}
 use Rattle.machine.specs.Words.{bit, cleared}
 use Rattle.machine.specs.Offsets.{isMailbox, reader}
 use Rattle.machine.specs.Access.{Access, isReadBy}

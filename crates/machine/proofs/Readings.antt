@@ -1,18 +1,16 @@
 -- The sentences about bits and bytes.
-use Prim.Native.Nat.{ℕ, zero, suc, _+_, _-_, _*_, _/_, _%_, _^_, _≤_, _<_, min}
+use Prim.Native.Nat.{ℕ, _+_, _-_, _*_, _/_, _%_, _^_, _≤_, _<_, min}
 use mathlib.Core.Path.{_≡_, refl, sym, ap, _∙_}
-use mathlib.Core.Bool.{Bool, true, false, cond, not, _&&_, _||_, true≢false, and-true, and-false, or-false, and-comm, or-comm}
+use mathlib.Core.Bool.{Bool, true, false, cond, not, _&&_, _||_, and-true, and-false, or-false, and-comm}
 use native.Mathlib.Omega.{arith}
-use lib.Dec.{eqb, leb, ltb}
-use lib.Bits.{bitAnd, bitOr}
+use lib.Dec.{eqb, leb}
+use lib.Bits.{bitAnd}
 use lib.ListN.{length}
-use borrow.Author.Tests.{eqb-true, eq-eqb, ne-eqb, lt-ltb, le-ltb, lt-leb, le-leb, leb-true, leb-false, not-false}
-use Rattle.machine.specs.Words.{bit, shown, merged, written, flag, cleared}
-use Rattle.machine.specs.Sides.{Side, pci, addon, host, card}
-use Rattle.machine.specs.State.{State, lane, held}
+use borrow.Author.Tests.{eq-eqb, ne-eqb, lt-ltb, le-ltb, lt-leb, le-leb, leb-true, leb-false, not-false}
+use Rattle.machine.specs.Words.{bit, shown}
+use Rattle.machine.specs.Sides.{pci, addon, host, card}
+use Rattle.machine.specs.State.{State}
 use Rattle.machine.specs.Access.{Access, Kind, reading, writing, cycle, chipReset, unknown, isReadBy, isWriteBy}
-use Rattle.machine.specs.Mailboxes.{takesByte, fillsByte, marksAt}
-use Rattle.machine.specs.Fifos.{isEmpty, isFull, amount}
 use Rattle.machine.specs.Mcsr.{mcsrKept, fifoStatus, mcsrStatus, mcsrRead}
 use Rattle.machine.specs.Cycles.{addressKept, countKept, lowEnables, runsOut}
 use Rattle.machine.specs.Intcsr.{intcsrKept, intcsrEvents, intcsrWritten, outgoingEvent, incomingEvent, chosenOutgoing, chosenIncoming, intcsrAfter, lineOf, intcsrRead}

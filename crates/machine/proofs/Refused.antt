@@ -1,20 +1,18 @@
 -- Demand 1: a refused step changes nothing, code 13 sets INTCSR bit 20 only, and the code is the lowest of 0 to 13 that applies.
 use Prim.Native.Nat.{ℕ, zero, suc, _≤_}
-use mathlib.Core.Path.{_≡_, refl, sym, ap, _∙_}
-use mathlib.Core.Bool.{Bool, true, false, cond, not, _&&_, _||_, true≢false, or-true, true-or}
+use mathlib.Core.Path.{_≡_, refl, sym, _∙_}
+use mathlib.Core.Bool.{Bool, true, false, cond, not, _&&_, true≢false, or-true, true-or}
 use mathlib.Core.List.{List, [], _∷_}
 use native.Mathlib.Omega.{arith}
 use lib.Dec.{eqb, leb}
 use lib.ListN.{length}
-use borrow.Author.Tests.{eqb-true, eq-eqb, ne-eqb, eqb-false, leb-true, le-leb, not-true}
-use Rattle.machine.specs.Words.{bit}
-use Rattle.machine.specs.Sides.{pci, addon}
+use borrow.Author.Tests.{eqb-true, eq-eqb, ne-eqb, leb-true}
 use Rattle.machine.specs.State.{State}
-use Rattle.machine.specs.Access.{Access, accessOf, kindOf}
+use Rattle.machine.specs.Access.{accessOf, kindOf}
 use Rattle.machine.specs.Intcsr.{lineOf, intcsrAborted}
 use Rattle.machine.specs.Code.{codeOf, tests, firstOf}
-use Rattle.machine.specs.Step.{stepOf, respond, stateAfter, memoryAfter, answered, replyOf, abortedReply, abortedState}
-use Rattle.machine.specs.Theorems.{Numbered, Refused, Aborted, AbortOnly, refusal, cycleAddress, testOf, Lowest, LowestCode}
+use Rattle.machine.specs.Step.{notAFrame, stepOf, respond, stateAfter, memoryAfter, answered, replyOf, abortedReply, abortedState}
+use Rattle.machine.specs.Theorems.{Numbered, Refused, NotAFrame, Aborted, AbortOnly, cycleAddress, testOf, Lowest, LowestCode}
 use Rattle.machine.specs.declared.Step.{Step}
 use Rattle.machine.proofs.Tests.{and-left, and-right}
 use Rattle.machine.proofs.Bits.{bit-raised}
@@ -103,6 +101,10 @@ unfolding stepOf respond stateAfter memoryAfter answered replyOf
 refused st start memory s e f =
     let code = codeOf st start (length memory) (accessOf s) in
     rw (e, f) (λ i. record { state = st; memory = memory; answer = record { code = code; address = 0; value = 0; enables = 0; line = line-cond (eqb code 1) (lineOf (st .intcsr)) i } })
+
+pub not-a-frame : NotAFrame
+unfolding notAFrame answered
+not-a-frame st = refl
 
 -- ---- code 13
 

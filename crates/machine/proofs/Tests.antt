@@ -1,15 +1,14 @@
 -- Laws of tests: of `&&` and `||`, of a list of tests, and of the first that applies.
-use Prim.Native.Nat.{ℕ, zero, suc, _≤_}
-use mathlib.Core.Path.{_≡_, refl, sym, ap, _∙_}
+use Prim.Native.Nat.{ℕ, zero, suc}
+use mathlib.Core.Path.{_≡_, refl, sym, _∙_}
 use mathlib.Core.Bool.{Bool, true, false, cond, not, _&&_, _||_, true≢false}
 use mathlib.Core.List.{List, [], _∷_}
-use native.Mathlib.Omega.{arith}
-use lib.Dec.{eqb, leb}
+use lib.Dec.{eqb}
 use lib.ListN.{getD}
-use borrow.Author.Tests.{eq-eqb, eqb-true, leb-true}
+use borrow.Author.Tests.{eq-eqb}
 use Rattle.machine.specs.Sides.{Side, pci, addon, either}
 use Rattle.machine.specs.Code.{firstOf, anyOf}
-use Rattle.machine.specs.Theorems.{testOf, Lowest}
+use Rattle.machine.specs.Theorems.{testOf}
 
 pub or-left : (a b : Bool) → (a || b) ≡ false → a ≡ false
 or-left true b e = e

@@ -1,5 +1,5 @@
 -- Two runs from reset that differ at most in the data of FIFO port writes.
-use Prim.Native.Nat.{ℕ, zero, suc}
+use Prim.Native.Nat.{ℕ}
 use mathlib.Core.Path.{_≡_, refl, sym, ap, ap₂, _∙_}
 use mathlib.Core.Bool.{Bool, true, false, cond, _&&_, _||_, true≢false, and-false}
 use mathlib.Core.List.{List, [], _∷_, _++_, head-eq-of-cons-eq, tail-eq-of-cons-eq, append-nil, append-assoc}
@@ -9,11 +9,11 @@ use lib.ListN.{length}
 use borrow.Author.Tests.{eqb-true}
 use Rattle.machine.specs.Words.{bit}
 use Rattle.machine.specs.Sides.{Side, pci, addon}
-use Rattle.machine.specs.State.{State, held, resetState}
+use Rattle.machine.specs.State.{State, resetState}
 use Rattle.machine.specs.Step.{stepOf}
 use Rattle.machine.specs.Event.{Event}
 use Rattle.machine.specs.Run.{run}
-use Rattle.machine.specs.Account.{isDone, isKind, command, clears, wordsIn, wordsOut, Tally, fresh, tallyAfter, talliedFrom, tally, Alike, AllAlike, none, more, answers, NoClear, accepted, Agreed}
+use Rattle.machine.specs.Account.{isDone, isKind, command, clears, wordsIn, wordsOut, Tally, fresh, tallyAfter, talliedFrom, Alike, AllAlike, none, more, answers, NoClear, accepted, Agreed}
 use Rattle.machine.specs.Theorems.{TwoRunsSince, TwoRuns}
 use Rattle.machine.specs.declared.Step.{Step}
 use Rattle.machine.proofs.FifoAccount.{fifo-account}

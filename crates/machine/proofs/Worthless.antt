@@ -1,17 +1,13 @@
 -- The four worthless models fail the marked examples, and two of them the FIFO account.
 use Prim.Native.Nat.{ℕ, suc}
-use mathlib.Core.Path.{_≡_, sym, ap, _∙_}
-use mathlib.Core.List.{List, [], _∷_, _++_, head-eq-of-cons-eq}
+use mathlib.Core.Path.{_≡_, ap}
+use mathlib.Core.List.{List, [], _∷_, head-eq-of-cons-eq}
 use native.Mathlib.Omega.{arith}
 use lib.ListN.{getD}
 use Rattle.machine.specs.Sides.{pci}
 use Rattle.machine.specs.State.{resetState}
-use Rattle.machine.specs.Step.{computing}
-use Rattle.machine.specs.Run.{Run}
-use Rattle.machine.specs.Examples.{Seen, Meets, marked, got, ok, pciRead, pciWrite, addonRead, writeCycle, zeros}
-use Rattle.machine.specs.Theorems.{KeepsFifoAccount}
-use Rattle.machine.specs.Worthless.{refusing, constant, still, firstOnly, RefusingFails, ConstantFails, StillFails, FirstOnlyFails, ConstantBreaks, StillBreaks}
-use Rattle.machine.specs.declared.Step.{Step}
+use Rattle.machine.specs.Examples.{Seen, ok, pciRead, pciWrite, addonRead, writeCycle, zeros}
+use Rattle.machine.specs.Worthless.{RefusingFails, ConstantFails, StillFails, FirstOnlyFails, ConstantBreaks, StillBreaks}
 use Rattle.machine.specs.declared.Answer.{Answer}
 
 -- the answer to step j in row i of a table

@@ -1,11 +1,11 @@
 -- "Numbers a step can answer": when each code is given, and that the lowest that applies is given.
-use Prim.Native.Nat.{ℕ, _+_, _%_}
+use Prim.Native.Nat.{ℕ, _%_}
 use mathlib.Core.Bool.{Bool, false, cond, not, _&&_, _||_}
 use mathlib.Core.List.{List, [], _∷_, _++_}
 use lib.Dec.{eqb, ltb}
 use lib.ListN.{length}
 use Rattle.machine.specs.Words.{bit, only}
-use Rattle.machine.specs.Sides.{Side, pci, addon, other, either}
+use Rattle.machine.specs.Sides.{Side, other, either}
 use Rattle.machine.specs.State.{State, Lane, lane, held}
 use Rattle.machine.specs.Access.{Access, isAccess, isRead, isWrite, isUnknown, cycles, reads, writes}
 use Rattle.machine.specs.Offsets.{inTable, isReadOnly, fifoPort}

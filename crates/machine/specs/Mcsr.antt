@@ -1,11 +1,10 @@
 -- MCSR: what it keeps, what writing it commands, and its status ("INTCSR and MCSR").
 use Prim.Native.Nat.{ℕ, _+_, _*_, _^_}
-use mathlib.Core.Bool.{Bool, cond, _&&_}
+use mathlib.Core.Bool.{cond}
 use mathlib.Core.List.{List}
 use lib.Dec.{eqb, leb}
 use lib.Bits.{bitOr}
-use lib.ListN.{length}
-use Rattle.machine.specs.Words.{bit, ones, flag, written}
+use Rattle.machine.specs.Words.{ones, flag, written}
 use Rattle.machine.specs.Sides.{Side, pci, addon}
 use Rattle.machine.specs.State.{State, lane, held}
 use Rattle.machine.specs.Offsets.{mcsrAt}

@@ -131,6 +131,8 @@ cycleCases =
     ∷ example
     (writeCycle ∷ readCycle ∷ pciWrite 0x3C 0x4400 ∷ stepBy 4 0xFF 99 7 ∷ readCycle ∷ pciWrite 0x28 4 ∷ writeCycle ∷ [])
     (refuses 9 ∷ refuses 9 ∷ ok ∷ refuses 10 ∷ refuses 10 ∷ ok ∷ refuses 12 ∷ [])
+    -- MCSR 15, 12 and 8 enable nothing
+    ∷ example (pciWrite 0x3C 0x9100 ∷ pciWrite 0x28 4 ∷ pciWrite 0x30 4 ∷ writeCycle ∷ readCycle ∷ []) (ok ∷ ok ∷ ok ∷ refuses 9 ∷ refuses 9 ∷ [])
     -- the lowest first: off before count, count before abort, abort before ready
     ∷ case abortStanding 0 [] (writeCycle ∷ pciWrite 0x3C 0x400 ∷ writeCycle ∷ pciWrite 0x28 4 ∷ writeCycle ∷ [])
     (high (refuses 9) ∷ high ok ∷ high (refuses 10) ∷ high ok ∷ high (refuses 11) ∷ [])

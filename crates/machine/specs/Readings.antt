@@ -8,7 +8,6 @@ use Rattle.machine.specs.Words.{bit, shown, merged, written}
 use Rattle.machine.specs.Sides.{pci, addon}
 use Rattle.machine.specs.State.{State}
 use Rattle.machine.specs.Access.{Access, isRead, isWrite, cycles, isReset}
-use Rattle.machine.specs.Mailboxes.{marksAfter}
 use Rattle.machine.specs.Mcsr.{mcsrKept, mcsrRead}
 use Rattle.machine.specs.Cycles.{addressKept, countKept, lowEnables}
 use Rattle.machine.specs.Intcsr.{intcsrKept, intcsrEvents, intcsrWritten, lineOf, intcsrRead}

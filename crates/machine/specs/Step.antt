@@ -1,11 +1,11 @@
 -- One step: the code, the answer, and the state and memory after it. For every state, memory, start and numbers.
-use Prim.Native.Nat.{ℕ, _^_}
-use mathlib.Core.Bool.{Bool, cond, not, _&&_}
+use Prim.Native.Nat.{ℕ}
+use mathlib.Core.Bool.{cond, not, _&&_}
 use mathlib.Core.List.{List}
 use lib.Dec.{eqb}
 use lib.ListN.{length, getD}
 use Rattle.machine.specs.Words.{bit, flag, byteMask, mask, cleared, raised, shown, merged, written, only}
-use Rattle.machine.specs.Sides.{Side, pci, addon, other, Party, host, card}
+use Rattle.machine.specs.Sides.{Side, pci, addon, Party, host, card}
 use Rattle.machine.specs.State.{State, lane, held, resetState}
 use Rattle.machine.specs.Access.{Access, accessOf, Kind, reading, writing, cycle, chipReset, unknown, isReset, cycles}
 use Rattle.machine.specs.Offsets.{isMailbox, mailbox, fifoPort, addressAt, countAt, statusAt, intcsrAt}

@@ -1,17 +1,16 @@
 -- What is proved of the machine: a statement for each promise. The proofs are in proofs/, each under the name that stands beside its statement.
 use Prim.Native.Nat.{ℕ, _≤_, _<_}
 use mathlib.Core.Path.{_≡_}
-use mathlib.Core.Bool.{Bool, true, false, cond, not, _&&_, _||_}
+use mathlib.Core.Bool.{Bool, true, false, cond, _||_}
 use mathlib.Core.List.{List, [], _∷_, _++_}
 use lib.Dec.{eqb}
-use lib.ListN.{length}
 use Rattle.machine.specs.Words.{bit}
-use Rattle.machine.specs.Sides.{Side, pci, addon}
-use Rattle.machine.specs.State.{State, lane, held, resetState}
-use Rattle.machine.specs.Access.{Access, accessOf}
+use Rattle.machine.specs.Sides.{Side}
+use Rattle.machine.specs.State.{State, held, resetState}
+use Rattle.machine.specs.Access.{Access}
 use Rattle.machine.specs.Intcsr.{lineOf}
 use Rattle.machine.specs.Code.{codeOf, tests, isOutOfForm}
-use Rattle.machine.specs.Step.{Outcome, stepOf}
+use Rattle.machine.specs.Step.{stepOf, notAFrame}
 use Rattle.machine.specs.Event.{Event}
 use Rattle.machine.specs.Run.{Run, run}
 use Rattle.machine.specs.Account.{tally, latest, isWrite, AllAlike, answers, Every, NoClear, Agreed}
@@ -34,6 +33,10 @@ Refused =
     (st : State) (start : ℕ) (memory : List ℕ) (s : Step)
     → (let o = stepOf st start memory s in let code = o .answer .code in
     eqb code 0 ≡ false → eqb code 13 ≡ false → o ≡ record { state = st; memory = memory; answer = refusal code st })
+
+-- `not-a-frame`: a line that is no frame is answered like a refusal, with code 14
+abbrev pub NotAFrame : Type 0
+NotAFrame = (st : State) → notAFrame st ≡ refusal 14 st
 
 -- all but INTCSR is as it was, and INTCSR has bit 20 besides
 pub record AbortOnly (st after : State) : Type 0 where

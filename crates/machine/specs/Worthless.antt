@@ -3,7 +3,7 @@ use Prim.Native.Nat.{ℕ, suc}
 use mathlib.Core.Path.{_≡_}
 use mathlib.Core.List.{List, [], _∷_, map}
 use Rattle.machine.specs.State.{State, resetState}
-use Rattle.machine.specs.Step.{Outcome, stepOf}
+use Rattle.machine.specs.Step.{stepOf}
 use Rattle.machine.specs.Event.{Event}
 use Rattle.machine.specs.Run.{Run, runOf}
 use Rattle.machine.specs.Examples.{Meets, marked, pciWrite, refuses}
