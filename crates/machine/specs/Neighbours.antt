@@ -159,9 +159,9 @@ abbrev pub eventCases : List Example
 eventCases =
     -- outgoing mailbox 2 byte 1 is chosen: an Add-On read of another byte or mailbox, or a PCI read, is no event; it lowers with its enable
     example
-    (pciWrite 0x38 0x15 ∷ pciWrite 0x04 0 ∷ stepBy 2 0x04 13 0 ∷ addonRead 0x00 ∷ pciRead 0x04 ∷ stepBy 2 0x04 2 0 ∷ pciRead 0x38 ∷ stepBy 1 0x38 3 0x10005
+    (pciWrite 0x38 0x15 ∷ pciWrite 0x04 0 ∷ stepBy 2 0x04 13 0 ∷ addonRead 0x00 ∷ pciRead 0x04 ∷ stepBy 2 0x04 2 0 ∷ pciRead 0x38 ∷ stepBy 1 0x38 3 0x10005 ∷ pciRead 0x38
     ∷ stepBy 1 0x38 4 0x10000 ∷ pciRead 0x38 ∷ addonRead 0x04 ∷ pciRead 0x38 ∷ [])
-    (ok ∷ ok ∷ ok ∷ ok ∷ ok ∷ high ok ∷ high (says 0x810015) ∷ ok ∷ ok ∷ says 0x5 ∷ ok ∷ says 0x5 ∷ [])
+    (ok ∷ ok ∷ ok ∷ ok ∷ ok ∷ high ok ∷ high (says 0x810015) ∷ ok ∷ says 0x10005 ∷ ok ∷ says 0x5 ∷ ok ∷ says 0x5 ∷ [])
     -- incoming mailbox 4 byte 2 is chosen: an Add-On write of it is the event, a PCI read is none
     ∷ example
     (pciWrite 0x38 0x1E00 ∷ stepBy 3 0x1C 11 0 ∷ addonWrite 0x18 0 ∷ pciRead 0x1C ∷ stepBy 3 0x1C 4 0 ∷ pciRead 0x38 ∷ pciWrite 0x38 0x20000 ∷ addonWrite 0x1C 0 ∷ [])
@@ -175,7 +175,7 @@ eventCases =
     ∷ case (stateOf resetLane resetLane 0x21000 0) 0 [] (pciRead 0x34 ∷ []) (high (says 0) ∷ [])
     ∷ case (stateOf resetLane resetLane 0x44000 0) 0 [] (pciRead 0x34 ∷ []) (high (says 0) ∷ [])
     ∷ case (stateOf resetLane resetLane 0x88000 0) 0 [] (pciRead 0x34 ∷ []) (high (says 0) ∷ [])
-    ∷ case (stateOf resetLane resetLane 0x200000 0x400) 0 [] (pciWrite 0x28 4 ∷ writeCycle ∷ pciWrite 0x38 0x200000 ∷ []) (high ok ∷ high (refuses 11) ∷ ok ∷ [])
+    ∷ case (stateOf resetLane resetLane 0x200000 0x400) 0 [] (pciWrite 0x28 4 ∷ writeCycle ∷ pciWrite 0x38 0 ∷ pciWrite 0x38 0x200000 ∷ []) (high ok ∷ high (refuses 11) ∷ high ok ∷ ok ∷ [])
     ∷ []
 
 abbrev pub neighbours : List Example
