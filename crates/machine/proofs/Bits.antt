@@ -1,8 +1,8 @@
 -- The bits of what the operations on words make. A number is its bits.
-use Prim.Native.Nat.{ℕ, zero, suc, _+_, _-_, _*_, _/_, _%_, _^_, _<_, min, max}
+use Prim.Native.Nat.{ℕ, zero, suc, _+_, _-_, _*_, _/_, _%_, _^_, _<_, _≤_, min, max}
 use mathlib.Core.Path.{_≡_, refl, sym, ap, ap₂, _∙_}
 use mathlib.Core.Bool.{Bool, true, false, not, _&&_, _||_, or-false, and-assoc, and-comm, and-or-distrib-right}
-use native.Mathlib.Nat.{mod-lt, div-div-eq-div-mul, pow-suc, mul-comm, mul-one, one-mul, sub-zero, suc-sub-suc, zero-div}
+use native.Mathlib.Nat.{mod-lt, div-div-eq-div-mul, pow-suc, mul-comm, mul-one, one-mul, sub-zero, suc-sub-suc, zero-div, div-eq-of-lt, lt-of-lt-of-le, pow-le-pow-right}
 use native.Mathlib.Omega.{arith}
 use lib.Dec.{eqb, leb, ltb, leb·zero, leb·suc-zero, leb·suc-suc}
 use lib.Bits.{bitAnd, bitOr, and-shr, or-shr, and-step, or-step, shifted-even, shifted-half}
@@ -78,6 +78,11 @@ bit-power k j = ap (λ (x : ℕ). bit x j) (sym (one-mul (2 ^ k))) ∙ bit-shl 1
         same true q = let p = eqb-true j k q in eq-eqb (j - k) 0 (omega arith)
         same false q = let l = leb-true k j e in ne-eqb (j - k) 0 (λ r. eqb-false j k q (omega arith))
     at false e = let l = leb-false k j e in sym (ne-eqb j k (λ q. omega arith))
+
+-- a number below 2 ^ n has no bit from n on
+pub bit-beyond : (n k x : ℕ) → x < 2 ^ n → n ≤ k → bit x k ≡ false
+unfolding bit
+bit-beyond n k x h l = rw (div-eq-of-lt (lt-of-lt-of-le h (pow-le-pow-right {n = 2} (omega arith) {i = n} {j = k} l)))
 
 -- ---- flags, raised and cleared bits
 

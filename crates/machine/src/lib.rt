@@ -1,4 +1,8 @@
-// A step and its answer, as numbers. The definitions in specs/ and the code that meets them share these two.
+// A step and its answer, as numbers, and the numbers by name. The definitions in specs/ and the code that meets them share them.
+
+pub mod codes;
+pub mod kinds;
+pub mod offsets;
 
 // A step: its kind, an offset, byte enables and 32-bit data. Any four numbers make a step.
 pub struct Step {

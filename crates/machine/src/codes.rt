@@ -1,0 +1,30 @@
+// The numbers that a step can answer, and 14, the answer to a line that is no frame.
+pub const DONE: u32 = 0;
+
+pub const STATE_OUT_OF_FORM: u32 = 1;
+
+pub const WINDOW_OUT_OF_FORM: u32 = 2;
+
+pub const UNKNOWN_STEP: u32 = 3;
+
+pub const UNKNOWN_OFFSET: u32 = 4;
+
+pub const BAD_ENABLES: u32 = 5;
+
+pub const PART_FIFO_ACCESS: u32 = 6;
+
+pub const READ_ONLY_REGISTER: u32 = 7;
+
+pub const FIFO_FULL_OR_EMPTY: u32 = 8;
+
+pub const TRANSFER_OFF: u32 = 9;
+
+pub const COUNT_IS_ZERO: u32 = 10;
+
+pub const ABORT_STANDS: u32 = 11;
+
+pub const FIFO_NOT_READY: u32 = 12;
+
+pub const NO_MEMORY_THERE: u32 = 13;
+
+pub const NOT_A_FRAME_LINE: u32 = 14;

@@ -1,0 +1,71 @@
+// 32-bit words: single bits, and the bytes that take part in an access.
+ghost use mathlib.Core.Path.{_≡_};
+ghost use Prim.Native.Nat.{_%_};
+ghost use mathlib.Core.Bool.{cond};
+ghost use Rattle.machine.specs.Words.{bit, mask, cleared, raised, shown, merged, written, only};
+
+// Whether bit k of x is set.
+pub fn bit(x: u32, k: u32) -> bool
+    ensures { λ r. ⌜ r ≡ bit x k ⌝ }
+{
+    if k < 32 { (x >> k) % 2 == 1 } else { false }
+}
+
+// The word `ones` if enable bit i is set, else zero.
+fn byte_mask(enables: u32, i: u32, ones: u32) -> u32
+    ensures { λ r. ⌜ r ≡ cond (bit enables i) ones 0 ⌝ }
+{
+    if bit(enables, i) { ones } else { 0 }
+}
+
+// Ones at the enabled bytes.
+pub fn mask(enables: u32) -> u32
+    ensures { λ r. ⌜ r ≡ mask enables ⌝ }
+{
+    byte_mask(enables, 0, 0x0000_00FF)
+        | byte_mask(enables, 1, 0x0000_FF00)
+        | byte_mask(enables, 2, 0x00FF_0000)
+        | byte_mask(enables, 3, 0xFF00_0000)
+}
+
+// x with zeros where y has ones.
+pub fn cleared(x: u32, y: u32) -> u32
+    ensures { λ r. ⌜ r ≡ cleared x y ⌝ }
+{
+    x & !y
+}
+
+// x with bit k set, k counted modulo 32, if on.
+pub fn raised(x: u32, on: bool, k: u32) -> u32
+    ensures { λ r. ⌜ r ≡ raised x on (k % 32) ⌝ }
+{
+    if on { x | 1 << (k % 32) } else { x }
+}
+
+// The enabled bytes of x, zero at the others.
+pub fn shown(x: u32, enables: u32) -> u32
+    ensures { λ r. ⌜ r ≡ shown x enables ⌝ }
+{
+    x & mask(enables)
+}
+
+// The enabled bytes of new, the others of old.
+pub fn merged(old: u32, new: u32, enables: u32) -> u32
+    ensures { λ r. ⌜ r ≡ merged old new enables ⌝ }
+{
+    cleared(old, mask(enables)) | shown(new, enables)
+}
+
+// A write to a register that keeps the bits where keeps has ones.
+pub fn written(keeps: u32, old: u32, new: u32, enables: u32) -> u32
+    ensures { λ r. ⌜ r ≡ written keeps old new enables ⌝ }
+{
+    merged(old, new, enables) & keeps
+}
+
+// Whether x has no ones but those of y.
+pub fn is_only(y: u32, x: u32) -> bool
+    ensures { λ r. ⌜ r ≡ only y x ⌝ }
+{
+    (x & y) == x
+}
