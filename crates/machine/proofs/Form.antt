@@ -26,7 +26,7 @@ use Rattle.machine.specs.Account.{Every}
 use Rattle.machine.specs.Theorems.{testOf, FormKept, NeverOutOfForm}
 use Rattle.machine.specs.declared.Step.{Step}
 use Rattle.machine.proofs.Tests.{none-applies, neither, any-none, or-left, and-at}
-use Rattle.machine.proofs.Refused.{lowest}
+use Rattle.machine.proofs.Refused.{lowest-code}
 use Rattle.machine.proofs.Bits.{Only, only-or, only-and, only-and-left, only-raised, is-only, only-is}
 
 -- ---- FIFOs: no fill above 8
@@ -191,7 +191,7 @@ in-form-code st start words x e = by (eqb (codeOf st start words x) 1) refl
     by : (b : Bool) → eqb (codeOf st start words x) 1 ≡ b → b ≡ false
     by true q =
         let one = eqb-true (codeOf st start words x) 1 q in
-        let applies : testOf 1 (tests st start words x) ≡ true = rw one at (lowest st start words x .applies (rw one)) in
+        let applies : testOf 1 (tests st start words x) ≡ true = rw one at (lowest-code st start words x .applies (rw one)) in
         sym applies ∙ e
     by false q = refl
 

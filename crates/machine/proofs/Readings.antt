@@ -1,26 +1,22 @@
 -- The sentences about bits and bytes.
-use Prim.Native.Nat.{ℕ, _+_, _-_, _*_, _/_, _%_, _^_, _≤_, _<_, min}
+use Prim.Native.Nat.{ℕ, _-_, _≤_, _<_, min}
 use mathlib.Core.Path.{_≡_, refl, sym, ap, _∙_}
-use mathlib.Core.Bool.{Bool, true, false, cond, not, _&&_, _||_, and-true, and-false, or-false, and-comm}
+use mathlib.Core.Bool.{Bool, true, false, _&&_, _||_, and-true, and-false, or-false}
 use native.Mathlib.Omega.{arith}
 use lib.Dec.{eqb, leb}
 use lib.Bits.{bitAnd}
 use lib.ListN.{length}
-use borrow.Author.Tests.{eq-eqb, ne-eqb, lt-ltb, le-ltb, lt-leb, le-leb, leb-true, leb-false, not-false}
+use borrow.Author.Tests.{ne-eqb, lt-leb, le-leb, leb-true, leb-false, not-false}
 use Rattle.machine.specs.Words.{bit, shown}
-use Rattle.machine.specs.Sides.{pci, addon, host, card}
 use Rattle.machine.specs.State.{State}
-use Rattle.machine.specs.Access.{Access, Kind, reading, writing, cycle, chipReset, unknown, isReadBy, isWriteBy}
 use Rattle.machine.specs.Mcsr.{mcsrKept, fifoStatus, mcsrStatus, mcsrRead}
-use Rattle.machine.specs.Cycles.{addressKept, countKept, lowEnables, runsOut}
-use Rattle.machine.specs.Intcsr.{intcsrKept, intcsrEvents, intcsrWritten, outgoingEvent, incomingEvent, chosenOutgoing, chosenIncoming, intcsrAfter, lineOf, intcsrRead}
+use Rattle.machine.specs.Cycles.{addressKept, countKept, lowEnables}
+use Rattle.machine.specs.Intcsr.{intcsrKept, intcsrEvents, intcsrHeld, intcsrWritten, lineOf, intcsrRead}
 use Rattle.machine.specs.Code.{isOutOfForm, faults}
-use Rattle.machine.specs.Step.{doneState}
-use Rattle.machine.specs.Readings.{ShownBits, MergedBits, WrittenBits, KeptBits, LowEnables, IntcsrWrittenBits, IntcsrReadBits, McsrStatus, McsrReadBits, EventRule, acknowledges, sets}
+use Rattle.machine.specs.Readings.{ShownBits, MergedBits, WrittenBits, KeptBitsHold, LowEnables, IntcsrWrittenBits, IntcsrReadBits, McsrStatus, McsrReadBits}
 use Rattle.machine.proofs.Tests.{any-none}
 use Rattle.machine.proofs.Bits.{bit-or, bit-and, bit-shl, bit-flag, bit-raised, bit-cleared, bit-ones, Only, is-only}
 use Rattle.machine.proofs.Bytes.{agree, bit-shown, bit-merged, bit-written, shown-lt}
-use Rattle.machine.proofs.MailAccount.{at-byte}
 
 pub shown-bits : ShownBits
 shown-bits = bit-shown
@@ -31,7 +27,7 @@ merged-bits = bit-merged
 pub written-bits : WrittenBits
 written-bits = bit-written
 
-pub kept-bits : (k : ℕ) → k < 32 → KeptBits k
+pub kept-bits : KeptBitsHold
 unfolding bit
 kept-bits k h =
     record {
@@ -47,23 +43,39 @@ unfolding intcsrWritten
 intcsr-written-bits k h old new e =
     simp (bit-or, bit-written k h, bit-cleared (bitAnd old intcsrEvents) (shown new e) k (shown-lt new e) h, bit-and, bit-shown k h)
 
-pub intcsr-read-bits : IntcsrReadBits
-unfolding intcsrRead
-intcsr-read-bits i k = bit-raised i (lineOf i) 23 k
-
 pub low-enables : LowEnables
 unfolding lowEnables
 low-enables count i = bit-ones (min 4 count) i
 
--- ---- MCSR as it is read
+-- ---- INTCSR and MCSR as they are read, in form
 
 module _ (st : State) (form : isOutOfForm st ≡ false) where
-  kept : Only mcsrKept (st .mcsr)
+  -- a register that holds no bit but those of y
+  held-bits : (y x k : ℕ) → Only y x → bit x k ≡ (bit x k && bit y k)
+  held-bits y x k e = ap (λ (m : ℕ). bit m k) (sym e) ∙ bit-and x y k
+
+  intcsr-held : Only intcsrHeld (st .intcsr)
   unfolding isOutOfForm
-  kept = is-only mcsrKept (st .mcsr) (not-false _ (any-none (faults st) form 3))
+  intcsr-held = is-only intcsrHeld (st .intcsr) (not-false _ (any-none (faults st) form 2))
+
+  mcsr-kept : Only mcsrKept (st .mcsr)
+  unfolding isOutOfForm
+  mcsr-kept = is-only mcsrKept (st .mcsr) (not-false _ (any-none (faults st) form 3))
 
   unkept : (k : ℕ) → bit mcsrKept k ≡ false → bit (st .mcsr) k ≡ false
-  unkept k e = ap (λ (m : ℕ). bit m k) (sym kept) ∙ bit-and (st .mcsr) mcsrKept k ∙ rw e (and-false (bit (st .mcsr) k))
+  unkept k e = held-bits mcsrKept (st .mcsr) k mcsr-kept ∙ rw e (and-false (bit (st .mcsr) k))
+
+  held-are : (k : ℕ) → k < 32 → bit intcsrHeld k ≡ (bit intcsrKept k || bit intcsrEvents k)
+  unfolding bit
+  held-are k h = agree 32 (bit intcsrHeld) (λ j. bit intcsrKept j || bit intcsrEvents j) refl k h
+
+  intcsr-bits : (k : ℕ) → k < 32
+      → bit (intcsrRead (st .intcsr)) k ≡ (bit (st .intcsr) k && (bit intcsrKept k || bit intcsrEvents k) || lineOf (st .intcsr) && eqb k 23)
+  unfolding intcsrRead
+  intcsr-bits k h =
+      bit-raised (st .intcsr) (lineOf (st .intcsr)) 23 k
+      ∙ (λ i. held-bits intcsrHeld (st .intcsr) k intcsr-held i || lineOf (st .intcsr) && eqb k 23)
+      ∙ (λ i. bit (st .intcsr) k && held-are k h i || lineOf (st .intcsr) && eqb k 23)
 
   four-free : leb 4 (8 - length (st .fromPci .words)) ≡ leb (length (st .fromPci .words)) 4
   four-free = by (leb (length (st .fromPci .words)) 4) refl
@@ -102,85 +114,11 @@ module _ (st : State) (form : isOutOfForm st ≡ false) where
         pciEmpty = simp (bit-or, bit-flag, bit-shl, unkept 2 refl, and-true, and-false, or-false);
         pciFourFree = simp (bit-or, bit-flag, bit-shl, unkept 1 refl, and-true, and-false, or-false) four-free;
         pciFull = simp (bit-or, bit-flag, bit-shl, unkept 0 refl, and-true, and-false);
-        others = λ k h. bit-or (st .mcsr) (mcsrStatus st) k ∙ rw (above k h) (or-false (bit (st .mcsr) k));
+        others = λ k h. bit-or (st .mcsr) (mcsrStatus st) k ∙ rw (above k h) (or-false (bit (st .mcsr) k)) ∙ held-bits mcsrKept (st .mcsr) k mcsr-kept;
       }
+
+pub intcsr-read-bits : IntcsrReadBits
+intcsr-read-bits = intcsr-bits
 
 pub mcsr-read-bits : McsrReadBits
 mcsr-read-bits = status
-
--- ---- the events
-
-module _ (k : ℕ) (low : 16 ≤ k) (high : k ≤ 21) where
-  not-kept : bit intcsrKept k ≡ false
-  not-kept =
-      kept-bits k (omega arith) .intcsr
-      ∙ simp (lt-leb k 4 (omega arith), lt-leb k 12 (omega arith), ne-eqb k 14 (λ q. omega arith), ne-eqb k 15 (λ q. omega arith), and-false)
-
-  an-event : bit intcsrEvents k ≡ true
-  an-event = kept-bits k (omega arith) .events ∙ simp (le-leb 16 k low, le-leb k 21 high)
-
-  swap-event : (b a c : Bool) → (b || a && c) ≡ (b && true || c && a)
-  swap-event true a c = refl
-  swap-event false a c = and-comm a c
-
-  -- nothing is set, nothing acknowledged
-  quiet : (b : Bool) → b ≡ (b && not false || (eqb k 16 && false || eqb k 17 && false || eqb k 18 && false || eqb k 19 && false))
-  quiet b = sym (simp (and-true, and-false, or-false))
-
-  outgoing : (i o n : ℕ) (v : ℕ)
-      → outgoingEvent i (record { kind = reading card; offset = o; enables = n; value = v }) ≡ (bit i 4 && (eqb o (i / 2 ^ 2 % 4 * 4) && bit n (i % 4)))
-  unfolding outgoingEvent
-  outgoing i o n v =
-      let j = chosenOutgoing i in
-      let c : j / 4 * 4 ≡ i / 2 ^ 2 % 4 * 4 = omega arith in
-      let d : j % 4 ≡ i % 4 = omega arith in
-      ap (λ (b : Bool). bit i 4 && b)
-      (at-byte j (omega arith) (λ b. isReadBy (cond b card host) (reading card)) o n ∙ rw (lt-ltb j 16 (omega arith), c, d))
-
-  incoming : (i o n : ℕ) (v : ℕ)
-      → incomingEvent i (record { kind = writing card; offset = o; enables = n; value = v })
-      ≡ (bit i 12 && (eqb o (0x10 + i / 2 ^ 10 % 4 * 4) && bit n (i / 2 ^ 8 % 4)))
-  unfolding incomingEvent
-  incoming i o n v =
-      let j = chosenIncoming i in
-      let c : j / 4 * 4 ≡ 0x10 + i / 2 ^ 10 % 4 * 4 = omega arith in
-      let d : j % 4 ≡ i / 2 ^ 8 % 4 = omega arith in
-      ap (λ (b : Bool). bit i 12 && b)
-      (at-byte j (omega arith) (λ b. isWriteBy (cond b host card) (writing card)) o n ∙ rw (le-ltb j 16 (omega arith), c, d))
-
-  runs-out : (count : ℕ) → runsOut count ≡ leb count 4
-  runs-out count = by (leb count 4) refl
-    where
-      by : (b : Bool) → leb count 4 ≡ b → eqb (count - min 4 count) 0 ≡ b
-      by true e = let l = leb-true count 4 e in eq-eqb (count - min 4 count) 0 (omega arith)
-      by false e = let l = leb-false count 4 e in ne-eqb (count - min 4 count) 0 (λ q. omega arith)
-
-  by-kind : (kind : Kind) (st : State) (o n v : ℕ)
-      → (let x : Access = record { kind = kind; offset = o; enables = n; value = v } in bit (intcsrAfter kind st x) k ≡ (bit (st .intcsr) k && not (acknowledges k x) || sets k st x))
-  unfolding intcsrAfter
-  by-kind (reading host) st o n v = quiet (bit (st .intcsr) k)
-  by-kind (reading card) st o n v =
-      bit-raised (st .intcsr) _ 16 k
-      ∙ rw (outgoing (st .intcsr) o n v) (simp (and-false, or-false) (swap-event (bit (st .intcsr) k) _ (eqb k 16)))
-  by-kind (writing host) st o n v = at (eqb o 0x38) refl
-    where
-      at : (b : Bool) → eqb o 0x38 ≡ b
-          → bit (cond b (intcsrWritten (st .intcsr) v n) (st .intcsr)) k
-          ≡ (bit (st .intcsr) k && not (b && bit n (k / 8) && bit v k) || (eqb k 16 && false || eqb k 17 && false || eqb k 18 && false || eqb k 19 && false))
-      at true e =
-          intcsr-written-bits k (omega arith) (st .intcsr) v n
-          ∙ simp (not-kept, an-event, and-false, and-true, or-false, and-comm (bit v k) (bit n (k / 8)))
-      at false e = quiet (bit (st .intcsr) k)
-  by-kind (writing card) st o n v =
-      bit-raised (st .intcsr) _ 17 k
-      ∙ rw (incoming (st .intcsr) o n v) (simp (and-false, or-false) (swap-event (bit (st .intcsr) k) _ (eqb k 17)))
-  by-kind (cycle addon) st o n v =
-      bit-raised (st .intcsr) _ 18 k ∙ rw (runs-out (st .fromAddon .count)) (simp (and-false, or-false) (swap-event (bit (st .intcsr) k) _ (eqb k 18)))
-  by-kind (cycle pci) st o n v =
-      bit-raised (st .intcsr) _ 19 k ∙ rw (runs-out (st .fromPci .count)) (simp (and-false, or-false) (swap-event (bit (st .intcsr) k) _ (eqb k 19)))
-  by-kind chipReset st o n v = quiet (bit (st .intcsr) k)
-  by-kind unknown st o n v = quiet (bit (st .intcsr) k)
-
-pub event-rule : EventRule
-unfolding doneState
-event-rule k low high st x word r = by-kind k low high (x .kind) st (x .offset) (x .enables) (x .value)

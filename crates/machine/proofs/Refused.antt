@@ -8,11 +8,11 @@ use lib.Dec.{eqb, leb}
 use lib.ListN.{length}
 use borrow.Author.Tests.{eqb-true, eq-eqb, ne-eqb, leb-true}
 use Rattle.machine.specs.State.{State}
-use Rattle.machine.specs.Access.{accessOf, kindOf}
+use Rattle.machine.specs.Access.{Access, accessOf, kindOf}
 use Rattle.machine.specs.Intcsr.{lineOf, intcsrAborted}
 use Rattle.machine.specs.Code.{codeOf, tests, firstOf}
 use Rattle.machine.specs.Step.{notAFrame, stepOf, respond, stateAfter, memoryAfter, answered, replyOf, abortedReply, abortedState}
-use Rattle.machine.specs.Theorems.{Numbered, Refused, NotAFrame, Aborted, AbortOnly, cycleAddress, testOf, Lowest, LowestCode}
+use Rattle.machine.specs.Theorems.{Numbered, Refused, NotAFrame, Aborted, AbortOnly, cycleAddress, testOf, Lowest, LowestCode, EveryCode}
 use Rattle.machine.specs.declared.Step.{Step}
 use Rattle.machine.proofs.Tests.{and-left, and-right}
 use Rattle.machine.proofs.Bits.{bit-raised}
@@ -82,9 +82,16 @@ module _ (m : ℕ) where
           by c true e = absurd (true≢false (sym e))
           by c false e = e
 
-pub lowest : LowestCode
+pub lowest-code : (st : State) (start words : ℕ) (x : Access) → Lowest (codeOf st start words x) (tests st start words x)
 unfolding codeOf
-lowest st start words x = lowest-of 13 0 (tests st start words x) refl
+lowest-code st start words x = lowest-of 13 0 (tests st start words x) refl
+
+pub lowest : LowestCode
+unfolding stepOf respond answered
+lowest st start memory s = lowest-code st start (length memory) (accessOf s)
+
+pub every-code : EveryCode
+every-code st start words x = refl
 
 pub numbered : Numbered
 unfolding stepOf respond answered codeOf

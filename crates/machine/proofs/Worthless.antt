@@ -1,10 +1,14 @@
 -- The four worthless models fail the marked examples, and two of them the FIFO account.
 use Prim.Native.Nat.{ℕ, suc}
-use mathlib.Core.Path.{_≡_, ap}
+use mathlib.Core.Path.{_≡_, refl, ap}
+use mathlib.Core.Bool.{Bool, true, false, _||_}
+use lib.Dec.{eqb}
+use borrow.Author.Tests.{eqb-true}
+use Rattle.machine.proofs.Tests.{and-left, and-right}
 use mathlib.Core.List.{List, [], _∷_, head-eq-of-cons-eq}
 use native.Mathlib.Omega.{arith}
 use lib.ListN.{getD}
-use Rattle.machine.specs.Sides.{pci}
+use Rattle.machine.specs.Sides.{pci, addon}
 use Rattle.machine.specs.State.{resetState}
 use Rattle.machine.specs.Examples.{Seen, ok, pciRead, pciWrite, addonRead, writeCycle, zeros}
 use Rattle.machine.specs.Worthless.{RefusingFails, ConstantFails, StillFails, FirstOnlyFails, ConstantBreaks, StillBreaks}
@@ -16,12 +20,12 @@ answerAt i j rows = getD (getD rows i (record { answers = []; words = [] }) .ans
 
 -- example 1 is done
 pub refusing-fails : RefusingFails
-refusing-fails code h =
-    let e : suc (code resetState 0 zeros (pciRead 0x3C)) ≡ 0 = ap (λ (rows : List Seen). answerAt 0 0 rows .code) h in omega arith
+refusing-fails rule h =
+    let e : suc (rule resetState 0 zeros (pciRead 0x3C) .answer .code) ≡ 0 = ap (λ (rows : List Seen). answerAt 0 0 rows .code) h in omega arith
 
 -- examples 1 and 2 show different data
 pub constant-fails : ConstantFails
-constant-fails answer next h =
+constant-fails answer rule h =
     let first : answer .value ≡ 0xE6 = ap (λ (rows : List Seen). answerAt 0 0 rows .value) h in
     let second : answer .value ≡ 0xDF1F = ap (λ (rows : List Seen). answerAt 1 1 rows .value) h in
     omega arith
@@ -41,13 +45,25 @@ first-only-fails echo h =
 
 -- a word written and read back is the constant's data, whatever the word
 pub constant-breaks : ConstantBreaks
-constant-breaks answer next done h =
+constant-breaks answer rule done h =
     let read : (v : ℕ) → v ≡ answer .value = λ v. head-eq-of-cons-eq (rw done at (h pci 0 [] (pciWrite 0x20 v ∷ addonRead 0x20 ∷ []))) in
     omega (arith, read 1, read 2)
 
 -- a word written is not held
+not-held : (value : ℕ) → value ∷ [] ≡ [] → ⊥
+not-held value e = let z : _≡_ {A = ℕ} 0 1 = cc in omega arith
+
 pub still-breaks : StillBreaks
-still-breaks answer start memory value done h =
-    let lost : value ∷ [] ≡ [] = rw done at (h pci start memory (pciWrite 0x20 value ∷ [])) in
-    let z : _≡_ {A = ℕ} 0 1 = cc in
-    omega arith
+still-breaks answer start memory s p done h = by (eqb (s .kind) 1) refl
+  where
+    port : s .offset ≡ 0x20
+    port = eqb-true (s .offset) 0x20 (and-left (eqb (s .offset) 0x20) (eqb (s .kind) 1 || eqb (s .kind) 3) p)
+
+    by : (b : Bool) → eqb (s .kind) 1 ≡ b → ⊥
+    by true e =
+        let k = eqb-true (s .kind) 1 e in
+        not-held (s .value) (rw (done, k, port) at (h pci start memory (s ∷ [])))
+    by false e =
+        let three = and-right (eqb (s .offset) 0x20) (eqb (s .kind) 1 || eqb (s .kind) 3) p in
+        let k = eqb-true (s .kind) 3 (rw e at three) in
+        not-held (s .value) (rw (done, k, port) at (h addon start memory (s ∷ [])))

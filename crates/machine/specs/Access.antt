@@ -5,7 +5,7 @@ use lib.Dec.{eqb}
 use Rattle.machine.specs.Sides.{Side, pci, addon, sameSide, Party, host, card, partyOf, sameParty}
 use Rattle.machine.specs.declared.Step.{Step}
 
--- A cycle is named by the lane that it works on.
+-- A cycle is named by the lane that it works on. "Kinds 4 to 6 ignore offset, enables and data": no rule of theirs looks at them.
 pub data Kind : Type 0 where
   reading writing : Party → Kind
   cycle : Side → Kind
@@ -76,7 +76,7 @@ isUnknown (cycle side) = false
 isUnknown chipReset = false
 isUnknown unknown = true
 
--- on a side's bus: a read, a write, and each of the register at an offset
+-- a read, or a write, on a side's bus; then the same of the register at an offset
 abbrev pub isRead : Side → Kind → Bool
 isRead side k = isReadBy (partyOf side) k
 

@@ -75,7 +75,7 @@ isNotReady st x = either (λ side. cycles side (x .kind) && not (isReady side st
 unfoldable pub isNoMemory : State → ℕ → ℕ → Access → Bool
 isNoMemory st start words x = either (λ side. cycles side (x .kind) && not (inside start words (lane side st .address)))
 
--- The codes, each with its test, in the order of the table: those of any step, then those of a cycle.
+-- The codes, each with its test, in the order of the table: 1 to 8, then those of cycles alone, 9 to 13.
 abbrev pub stepTests : State → ℕ → ℕ → Access → List (ℕ × Bool)
 stepTests st start words x =
     (stateOutOfForm, isOutOfForm st) ∷ (windowOutOfForm, isWindowOutOfForm start words) ∷ (unknownStep, isUnknown (x .kind))

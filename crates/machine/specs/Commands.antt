@@ -6,7 +6,7 @@ use Rattle.machine.specs.Sides.{Side, pci, addon}
 use Rattle.machine.specs.Offsets.{mcsrAt}
 use Rattle.machine.specs.Access.{Access, writes}
 
--- "Written ones": a side's control register is written with a one in bit k of its highest byte, that byte enabled
+-- "Written ones": a side writes a one to bit k, one of 24 to 31, of its control register at 3C, byte 3 enabled. Only PCI has one here, MCSR.
 abbrev pub commands : Side → ℕ → Access → Bool
 commands side k x = writes side mcsrAt x && bit (x .enables) 3 && bit (x .value) k
 

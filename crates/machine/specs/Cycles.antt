@@ -13,7 +13,7 @@ use Rattle.machine.specs.Fifos.{front, amount, fifoAfter}
 use Rattle.machine.specs.Window.{placeOf}
 use Rattle.machine.specs.Mcsr.{fourBit}
 
--- "n the lesser of 4 and the count", in bytes
+-- "n the lesser of 4 and the count", in bytes. Counts of bytes and fills of words are numbers here; the code keeps them apart by type.
 abbrev pub moved : ℕ → ℕ
 moved count = min 4 count
 
@@ -41,7 +41,7 @@ stored st start memory =
     let at = placeOf start (l .address) in
     set memory at (merged (getD memory at 0) (front (l .words)) (lowEnables (l .count)))
 
--- "Address registers keep bits 31 to 2, counts keep bits 25 to 0"
+-- "Address registers keep bits 31 to 2, counts keep bits 25 to 0"; code 1 asks for the same of what is held
 abbrev pub addressKept : ℕ
 addressKept = ones 2 31
 
@@ -70,7 +70,7 @@ countAfter side x old =
     cond (writes pci (countAt side) x) (written countKept old (x .value) (x .enables))
     (cond (cycles side (x .kind)) (countLeft old) old)
 
--- a lane after a done step, whose answer shows a word
+-- a lane after a done step that is no reset and whose answer shows a word
 abbrev pub laneAfter : Side → Access → ℕ → Lane → Lane
 laneAfter side x answered l =
     record {

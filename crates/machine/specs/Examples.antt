@@ -1,4 +1,4 @@
--- "Marked examples": the ten, as one table. Each goes from reset with the log program's memory, 4,096 zero words at address 0, unless it says so.
+-- "Marked examples": the ten, as one table. Each goes from reset with the log program's memory, 4,096 zero words at address 0, unless said.
 use Prim.Native.Nat.{ℕ}
 use mathlib.Core.Path.{_≡_}
 use mathlib.Core.Bool.{true, false}

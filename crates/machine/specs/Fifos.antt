@@ -9,7 +9,7 @@ use Rattle.machine.specs.Offsets.{fifoPort}
 use Rattle.machine.specs.Access.{Access, reads, writes, cycles}
 use Rattle.machine.specs.Commands.{clearsFifo}
 
--- "Each FIFO holds eight 32-bit words"
+-- "Each FIFO holds eight 32-bit words; room freed is used again": a fill is the length of the list, whatever went before
 abbrev pub depth : ℕ
 depth = 8
 
@@ -50,7 +50,7 @@ abbrev pub followed : List ℕ → List ℕ → List ℕ
 followed ws [] = ws
 followed ws (n ∷ ns) = ws ++ n ∷ ns
 
--- a FIFO after a done step: words leave at the front and come in behind the last; a clear leaves none
+-- a FIFO after a done step that is no reset: words leave at the front and come in behind the last; a clear leaves none
 abbrev pub fifoAfter : Side → Access → ℕ → List ℕ → List ℕ
 fifoAfter side x answered ws =
     cond (clearsFifo side x) [] (followed (drop (length (handedOut side x answered)) ws) (letIn side x answered))

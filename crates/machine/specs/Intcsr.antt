@@ -46,7 +46,7 @@ abbrev pub countBit : Side → ℕ
 countBit pci = 19
 countBit addon = 18
 
--- INTCSR after a done step of each kind: 16 by an Add-On read, 17 by an Add-On write, 18 and 19 by a cycle only
+-- INTCSR after a done step that is no reset: 16 by an Add-On read, 17 by an Add-On write, 18 and 19 by a cycle only
 unfoldable pub intcsrAfter : Kind → State → Access → ℕ
 intcsrAfter (reading host) st x = st .intcsr
 intcsrAfter (reading card) st x = raised (st .intcsr) (outgoingEvent (st .intcsr) x) 16
@@ -65,8 +65,8 @@ intcsrAborted i = raised i true 20
 
 -- "the interrupt line: 16 with 4, 17 with 12, 18 with 14, 19 with 15, or 20, or 21"
 unfoldable pub lineOf : ℕ → Bool
-lineOf i = bit i 16 && bit i 4 || bit i 17 && bit i 12 || bit i 18 && bit i 14 || bit i 19 && bit i 15 || bit i 20 || bit i 21
+lineOf i = bit i 16 && bit i 4 || bit i 17 && bit i 12 || bit i 18 && bit i 14 || bit i 19 && bit i 15 || abortIn i
 
--- as it is read: what it holds, and the line at bit 23; all others are zero
+-- as it is read: what it holds, and the line at bit 23; in form all others are zero
 unfoldable pub intcsrRead : ℕ → ℕ
 intcsrRead i = raised i (lineOf i) 23

@@ -1,4 +1,5 @@
--- "Mailboxes": who fills and who empties a byte, and the eight words and thirty-two marks after a step.
+-- "Mailboxes": who fills and who empties a byte, and the eight words and thirty-two marks after a done step that is no reset.
+-- Enables of 0 touch no byte.
 use Prim.Native.Nat.{ℕ, _*_, _%_, _^_}
 use mathlib.Core.Bool.{Bool, cond, _&&_}
 use mathlib.Core.List.{List}
@@ -28,8 +29,8 @@ fillsByte k x = fills x && bit (marksAt (x .offset) (x .enables)) k
 abbrev pub takesByte : ℕ → Access → Bool
 takesByte k x = takes x && bit (marksAt (x .offset) (x .enables)) k
 
--- "MCSR 27 marks every mailbox byte empty"; an owner's write marks each enabled byte full, the other side's read marks it empty;
--- any other step, the owner's own read too, changes no mark
+-- MCSR "27 marks every mailbox byte empty"; an owner's write marks each enabled byte full, the other side's read marks it empty;
+-- any other, the owner's own read too, changes no mark
 unfoldable pub marksAfter : Access → ℕ → ℕ
 marksAfter x marks =
     cond (clearsMarks x) 0

@@ -1,4 +1,4 @@
--- MCSR: what it keeps, what writing it commands, and its status ("INTCSR and MCSR").
+-- MCSR: what it keeps, and its status ("INTCSR and MCSR").
 use Prim.Native.Nat.{ℕ, _+_, _*_, _^_}
 use mathlib.Core.Bool.{cond}
 use mathlib.Core.List.{List}
@@ -15,12 +15,12 @@ use Rattle.machine.specs.Fifos.{isEmpty, isFull, amount}
 abbrev pub mcsrKept : ℕ
 mcsrKept = ones 12 15 + ones 8 10
 
--- "Bit 10 enables write cycles, 14 read cycles"
+-- "Bit 10 enables write cycles, 14 read cycles; 15, 12, 8 have no effect": no rule names those three
 abbrev pub enableBit : Side → ℕ
 enableBit pci = 14
 enableBit addon = 10
 
--- the bit that lets a write cycle wait for four words (9), a read cycle for room for four (13)
+-- the bit that makes a write cycle wait for four words (9), a read cycle for room for four (13)
 abbrev pub fourBit : Side → ℕ
 fourBit pci = 13
 fourBit addon = 9
@@ -38,6 +38,6 @@ mcsrStatus st =
     bitOr (bitOr (flag (eqb (lane addon st .count) 0) 7) (flag (eqb (lane pci st .count) 0) 6))
     (bitOr (fifoStatus addon (held addon st) * 2 ^ 3) (fifoStatus pci (held pci st)))
 
--- as it is read: the kept bits and the status; the command bits and all others are zero
+-- as it is read: the kept bits and the status; in form the command bits and all others are zero
 unfoldable pub mcsrRead : State → ℕ
 mcsrRead st = bitOr (st .mcsr) (mcsrStatus st)

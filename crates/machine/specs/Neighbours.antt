@@ -24,7 +24,7 @@ stateOf fromPci fromAddon intcsr mcsr =
 abbrev pub abortStanding : State
 abortStanding = stateOf resetLane resetLane 0x100000 0
 
--- ---- codes 1 and 2: of every kind, chip reset and unknown ones too; the line is zero for 1, the state's for 2
+-- ---- codes 1 and 2: of a read, a cycle, a chip reset and an unknown kind; the line is zero for 1, the state's for 2
 
 abbrev pub anyKinds : List Step
 anyKinds = pciRead 0x34 ∷ writeCycle ∷ stepBy 6 0 0 0 ∷ stepBy 7 0 0 0 ∷ []
@@ -47,6 +47,7 @@ formCases = map (λ st. case st 0 zeros anyKinds (sameFour (refuses 1))) outOfFo
 abbrev pub windowCases : List Example
 windowCases =
     case (stateOf (laneOf (replicate 8 0) 0xFFFFFFFC 0x03FFFFFF) (laneOf (replicate 8 0) 4 1) 0x3FDF1F 0xF700) 0 zeros (stepBy 6 0xFF 99 5 ∷ []) (ok ∷ [])
+    ∷ case abortStanding 1 zeros anyKinds (sameFour (high (refuses 2)))
     ∷ case abortStanding 2 zeros anyKinds (sameFour (high (refuses 2)))
     ∷ case abortStanding 0 (replicate 16385 0) anyKinds (sameFour (high (refuses 2)))
     ∷ case resetState 0xFFFFFFFC (replicate 16384 0) (stepBy 6 0 0 0 ∷ []) (ok ∷ [])
@@ -61,6 +62,13 @@ windowCases =
       places = 0 ∷ 1 ∷ 2 ∷ 3 ∷ [];
       words = 9 ∷ 1 ∷ 2 ∷ 3 ∷ [];
     }
+    -- a read cycle over a window that begins at 100: done, no memory there, abort stands; nothing more is let in
+    ∷ case (stateOf (laneOf [] 0x100 8) resetLane 0 0x4000) 0x100 (7 ∷ [])
+    (readCycle ∷ readCycle ∷ readCycle ∷ addonRead 0x20 ∷ addonRead 0x20 ∷ pciRead 0x2C ∷ pciRead 0x30 ∷ [])
+    (moves 0x100 7 0xF ∷ absent 0x104 ∷ high (refuses 11) ∷ high (says 7) ∷ high (refuses 8) ∷ high (says 0x104) ∷ high (says 4) ∷ [])
+    -- the read address wraps too
+    ∷ case (stateOf (laneOf [] 0xFFFFFFFC 8) resetLane 0 0x4000) 0xFFFFFFFC (1 ∷ 2 ∷ []) (readCycle ∷ readCycle ∷ pciRead 0x2C ∷ [])
+    (moves 0xFFFFFFFC 1 0xF ∷ moves 0 2 0xF ∷ says 4 ∷ [])
     -- below the start there is no memory
     ∷ case (stateOf resetLane (laneOf (1 ∷ []) 0xFC 4) 0 0x400) 0x100 zeros (writeCycle ∷ []) (absent 0xFC ∷ [])
     ∷ []
@@ -75,14 +83,18 @@ accessCases =
     ∷ example
     (pciRead 0x40 ∷ pciRead 0x01 ∷ pciWrite 0x22 0 ∷ stepBy 0 0x41 16 0 ∷ addonRead 0x24 ∷ addonRead 0x38 ∷ addonWrite 0x3C 0 ∷ addonRead 0x03 ∷ [])
     (refuses 4 ∷ refuses 4 ∷ refuses 4 ∷ refuses 4 ∷ refuses 4 ∷ refuses 4 ∷ refuses 4 ∷ refuses 4 ∷ [])
+    ∷ example (addonRead 0x28 ∷ addonRead 0x2C ∷ addonRead 0x30 ∷ []) (refuses 4 ∷ refuses 4 ∷ refuses 4 ∷ [])
     -- enables above 15, before part FIFO accesses and read-only registers
-    ∷ example (stepBy 0 0 16 0 ∷ stepBy 1 0x34 16 0 ∷ stepBy 2 0x20 31 0 ∷ []) (refuses 5 ∷ refuses 5 ∷ refuses 5 ∷ [])
+    ∷ example
+    (stepBy 0 0 16 0 ∷ stepBy 1 0x34 16 0 ∷ stepBy 2 0x20 31 0 ∷ stepBy 1 0x3C 16 0 ∷ stepBy 3 0x10 16 0 ∷ [])
+    (refuses 5 ∷ refuses 5 ∷ refuses 5 ∷ refuses 5 ∷ refuses 5 ∷ [])
     -- part FIFO accesses, before empty
     ∷ example (stepBy 0 0x20 0 0 ∷ stepBy 1 0x20 7 0 ∷ stepBy 2 0x20 14 0 ∷ stepBy 3 0x20 1 0 ∷ []) (refuses 6 ∷ refuses 6 ∷ refuses 6 ∷ refuses 6 ∷ [])
     -- read-only registers, also with enables of 0
     ∷ example
     (pciWrite 0x10 1 ∷ stepBy 1 0x1C 0 1 ∷ pciWrite 0x34 1 ∷ addonWrite 0x00 1 ∷ stepBy 3 0x0C 0 1 ∷ addonWrite 0x34 1 ∷ pciRead 0x34 ∷ [])
     (refuses 7 ∷ refuses 7 ∷ refuses 7 ∷ refuses 7 ∷ refuses 7 ∷ refuses 7 ∷ says 0 ∷ [])
+    ∷ example (pciWrite 0x14 1 ∷ pciWrite 0x18 1 ∷ addonWrite 0x04 1 ∷ addonWrite 0x08 1 ∷ []) (refuses 7 ∷ refuses 7 ∷ refuses 7 ∷ refuses 7 ∷ [])
     -- empty FIFOs
     ∷ example (pciRead 0x20 ∷ addonRead 0x20 ∷ []) (refuses 8 ∷ refuses 8 ∷ [])
     ∷ []
@@ -101,6 +113,8 @@ mailCases =
     (stepBy 1 0x0C 8 0x5A000000 ∷ stepBy 3 0x1C 8 0xC3000000 ∷ addonRead 0x34 ∷ stepBy 1 0x00 0 0xFF ∷ stepBy 2 0x0C 0 0 ∷ stepBy 0 0x34 8 0 ∷ addonRead 0x1C
     ∷ pciRead 0x34 ∷ [])
     (ok ∷ ok ∷ says 0x80008000 ∷ ok ∷ ok ∷ says 0x80000000 ∷ says 0xC3000000 ∷ says 0x80008000 ∷ [])
+    -- an incoming byte stays when it is read, and when MCSR 27 marks it empty
+    ∷ example (addonWrite 0x14 7 ∷ pciRead 0x14 ∷ pciRead 0x14 ∷ pciWrite 0x3C 0x08000000 ∷ pciRead 0x14 ∷ []) (ok ∷ says 7 ∷ says 7 ∷ ok ∷ says 7 ∷ [])
     -- MCSR 27 marks every byte empty, where its byte is enabled; the bytes stay
     ∷ example
     (pciWrite 0x08 6 ∷ addonWrite 0x14 7 ∷ stepBy 1 0x3C 7 0x08000000 ∷ pciRead 0x34 ∷ stepBy 1 0x3C 8 0x08000000 ∷ pciRead 0x34 ∷ addonRead 0x08 ∷ pciRead 0x3C ∷ [])
@@ -133,6 +147,18 @@ cycleCases =
     (refuses 9 ∷ refuses 9 ∷ ok ∷ refuses 10 ∷ refuses 10 ∷ ok ∷ refuses 12 ∷ [])
     -- MCSR 15, 12 and 8 enable nothing
     ∷ example (pciWrite 0x3C 0x9100 ∷ pciWrite 0x28 4 ∷ pciWrite 0x30 4 ∷ writeCycle ∷ readCycle ∷ []) (ok ∷ ok ∷ ok ∷ refuses 9 ∷ refuses 9 ∷ [])
+    -- and prevent nothing
+    ∷ case (stateOf (laneOf [] 0 4) (laneOf (7 ∷ []) 4 4) 0 0xD500) 0 (5 ∷ 6 ∷ []) (writeCycle ∷ readCycle ∷ []) (moves 4 7 0xF ∷ moves 0 5 0xF ∷ [])
+    -- write cycles with counts 3 and 2
+    ∷ record {
+      state = stateOf resetLane (laneOf (0x11223344 ∷ 0x55667788 ∷ []) 0 3) 0 0x400;
+      start = 0;
+      memory = 0xAAAAAAAA ∷ 0xBBBBBBBB ∷ [];
+      steps = writeCycle ∷ pciWrite 0x28 2 ∷ writeCycle ∷ [];
+      answers = moves 0 0x11223344 0x7 ∷ ok ∷ moves 4 0x55667788 0x3 ∷ [];
+      places = 0 ∷ 1 ∷ [];
+      words = 0xAA223344 ∷ 0xBBBB7788 ∷ [];
+    }
     -- the lowest first: off before count, count before abort, abort before ready
     ∷ case abortStanding 0 [] (writeCycle ∷ pciWrite 0x3C 0x400 ∷ writeCycle ∷ pciWrite 0x28 4 ∷ writeCycle ∷ [])
     (high (refuses 9) ∷ high ok ∷ high (refuses 10) ∷ high ok ∷ high (refuses 11) ∷ [])
@@ -141,6 +167,10 @@ cycleCases =
     (stepBy 1 0x28 1 0xFFFFFFFF ∷ pciRead 0x28 ∷ stepBy 1 0x30 8 0xFFFFFFFF ∷ pciRead 0x30 ∷ stepBy 1 0x2C 5 0x12345677 ∷ pciRead 0x2C ∷ stepBy 0 0x2C 4 0
     ∷ pciWrite 0x28 0 ∷ pciRead 0x38 ∷ [])
     (ok ∷ says 0xFF ∷ ok ∷ says 0x03000000 ∷ ok ∷ says 0x340074 ∷ says 0x340000 ∷ ok ∷ says 0 ∷ [])
+    -- part writes of MCSR, part reads of MCSR and INTCSR
+    ∷ example
+    (pciWrite 0x3C 0xF700 ∷ stepBy 1 0x3C 13 0 ∷ pciRead 0x3C ∷ stepBy 0 0x3C 1 0 ∷ stepBy 1 0x3C 2 0 ∷ pciRead 0x3C ∷ pciWrite 0x38 0x1F1F ∷ stepBy 0 0x38 2 0 ∷ [])
+    (ok ∷ ok ∷ says 0xF7E6 ∷ says 0xE6 ∷ ok ∷ says 0xE6 ∷ ok ∷ says 0x1F00 ∷ [])
     -- a chip reset leaves host memory and zeroes the rest
     ∷ record {
       state = stateOf (laneOf (1 ∷ []) 4 1) (laneOf (2 ∷ []) 8 2) 0x10DF1F 0xF700;
@@ -157,7 +187,7 @@ cycleCases =
 
 abbrev pub eventCases : List Example
 eventCases =
-    -- outgoing mailbox 2 byte 1 is chosen: an Add-On read of another byte or mailbox, or a PCI read, is no event; it lowers with its enable
+    -- outgoing mailbox 2 byte 1 is chosen: an Add-On read of another byte or mailbox, or a PCI read, is no event; the line lowers with its enable
     example
     (pciWrite 0x38 0x15 ∷ pciWrite 0x04 0 ∷ stepBy 2 0x04 13 0 ∷ addonRead 0x00 ∷ pciRead 0x04 ∷ stepBy 2 0x04 2 0 ∷ pciRead 0x38 ∷ stepBy 1 0x38 3 0x10005 ∷ pciRead 0x38
     ∷ stepBy 1 0x38 4 0x10000 ∷ pciRead 0x38 ∷ addonRead 0x04 ∷ pciRead 0x38 ∷ [])

@@ -12,12 +12,15 @@ isMailbox offset = ltb offset 0x20 && eqb (offset % 4) 0
 abbrev pub mailbox : ℕ → ℕ
 mailbox offset = offset / 4
 
+abbrev pub isOutgoing : ℕ → Bool
+isOutgoing offset = ltb offset 0x10
+
 -- a mailbox's owner, who writes it, and the other side, who reads it: PCI owns the outgoing ones, the Add-On the incoming ones
 abbrev pub writer : ℕ → Party
-writer offset = cond (ltb offset 0x10) host card
+writer offset = cond (isOutgoing offset) host card
 
 abbrev pub reader : ℕ → Party
-reader offset = cond (ltb offset 0x10) card host
+reader offset = cond (isOutgoing offset) card host
 
 abbrev pub fifoPort : ℕ
 fifoPort = 0x20

@@ -1,20 +1,26 @@
 -- Sentences of document 01 about bits and bytes, stated bit by bit of the rules that go by masks.
 use Prim.Native.Nat.{ℕ, _+_, _*_, _/_, _%_, _^_, _≤_, _<_, min}
 use mathlib.Core.Path.{_≡_}
-use mathlib.Core.Bool.{Bool, false, cond, not, _&&_, _||_}
+use mathlib.Core.Bool.{Bool, true, false, cond, not, _&&_, _||_}
+use mathlib.Core.List.{List}
 use lib.Dec.{eqb, leb, ltb}
-use lib.ListN.{length}
+use lib.ListN.{length, getD, set}
 use Rattle.machine.specs.Words.{bit, shown, merged, written}
 use Rattle.machine.specs.Sides.{pci, addon}
 use Rattle.machine.specs.State.{State}
-use Rattle.machine.specs.Access.{Access, isRead, isWrite, cycles, isReset}
+use Rattle.machine.specs.Access.{Access, accessOf, isRead, isWrite, cycles}
+use Rattle.machine.specs.Fifos.{front}
+use Rattle.machine.specs.Window.{placeOf}
 use Rattle.machine.specs.Mcsr.{mcsrKept, mcsrRead}
 use Rattle.machine.specs.Cycles.{addressKept, countKept, lowEnables}
 use Rattle.machine.specs.Intcsr.{intcsrKept, intcsrEvents, intcsrWritten, lineOf, intcsrRead}
 use Rattle.machine.specs.Code.{isOutOfForm}
-use Rattle.machine.specs.Step.{doneState}
+use Rattle.machine.specs.Step.{register, stepOf}
+use Rattle.machine.specs.declared.Step.{Step}
 
--- `shown-bits`: bytes that are not enabled are zero in a read answer; byte k / 8 has bit k
+-- ---- of the rules for words
+
+-- `shown-bits`: the enabled bytes, zero at the others (house); byte k / 8 has bit k
 abbrev pub ShownBits : Type 0
 ShownBits = (k : ℕ) → k < 32 → (x enables : ℕ) → bit (shown x enables) k ≡ (bit x k && bit enables (k / 8))
 
@@ -22,7 +28,7 @@ ShownBits = (k : ℕ) → k < 32 → (x enables : ℕ) → bit (shown x enables)
 abbrev pub MergedBits : Type 0
 MergedBits = (k : ℕ) → k < 32 → (old new enables : ℕ) → bit (merged old new enables) k ≡ cond (bit enables (k / 8)) (bit new k) (bit old k)
 
--- `written-bits`: and a register keeps its bits of it
+-- `written-bits`: of what is written a register keeps the bits where keeps has ones
 abbrev pub WrittenBits : Type 0
 WrittenBits =
     (k : ℕ) → k < 32 → (keeps old new enables : ℕ)
@@ -36,6 +42,9 @@ pub record KeptBits (k : ℕ) : Type 0 where
   pub events : bit intcsrEvents k ≡ (leb 16 k && leb k 21)
   pub mcsr : bit mcsrKept k ≡ (leb 12 k && leb k 15 || leb 8 k && leb k 10)
 
+abbrev pub KeptBitsHold : Type 0
+KeptBitsHold = (k : ℕ) → k < 32 → KeptBits k
+
 -- `low-enables`: the lowest n enables, n the lesser of 4 and the count
 abbrev pub LowEnables : Type 0
 LowEnables = (count i : ℕ) → bit (lowEnables count) i ≡ ltb i (min 4 count)
@@ -47,11 +56,13 @@ IntcsrWrittenBits =
     → bit (intcsrWritten old new enables) k
     ≡ (cond (bit enables (k / 8)) (bit new k) (bit old k) && bit intcsrKept k || bit old k && bit intcsrEvents k && not (bit new k && bit enables (k / 8)))
 
--- `intcsr-read-bits`: INTCSR reads as held, and bit 23 is the line
+-- `intcsr-read-bits`: INTCSR of a state in form reads the kept bits and 16 to 21, bit 23 is the line, and other bits read zero
 abbrev pub IntcsrReadBits : Type 0
-IntcsrReadBits = (i k : ℕ) → bit (intcsrRead i) k ≡ (bit i k || lineOf i && eqb k 23)
+IntcsrReadBits =
+    (st : State) → isOutOfForm st ≡ false → (k : ℕ) → k < 32
+    → (let i = st .intcsr in bit (intcsrRead i) k ≡ (bit i k && (bit intcsrKept k || bit intcsrEvents k) || lineOf i && eqb k 23))
 
--- `mcsr-read-bits`: MCSR of a state in form reads the kept bits, and the status in bits 7 to 0
+-- `mcsr-read-bits`: MCSR of a state in form reads the status in bits 7 to 0, and the kept bits; other bits read zero
 pub record McsrStatus (st : State) : Type 0 where
   pub writeCountZero : bit (mcsrRead st) 7 ≡ eqb (st .fromAddon .count) 0
   pub readCountZero : bit (mcsrRead st) 6 ≡ eqb (st .fromPci .count) 0
@@ -61,10 +72,37 @@ pub record McsrStatus (st : State) : Type 0 where
   pub pciEmpty : bit (mcsrRead st) 2 ≡ eqb (length (st .fromPci .words)) 0
   pub pciFourFree : bit (mcsrRead st) 1 ≡ leb (length (st .fromPci .words)) 4
   pub pciFull : bit (mcsrRead st) 0 ≡ leb 8 (length (st .fromPci .words))
-  pub others : (k : ℕ) → 8 ≤ k → bit (mcsrRead st) k ≡ bit (st .mcsr) k
+  pub others : (k : ℕ) → 8 ≤ k → bit (mcsrRead st) k ≡ (bit (st .mcsr) k && bit mcsrKept k)
 
 abbrev pub McsrReadBits : Type 0
 McsrReadBits = (st : State) → isOutOfForm st ≡ false → McsrStatus st
+
+-- ---- of a step
+
+-- `read-answers`: a done read of a register but the FIFO port answers its enabled bytes, zero at the others
+abbrev pub ReadAnswers : Type 0
+ReadAnswers =
+    (st : State) (start : ℕ) (memory : List ℕ) (s : Step)
+    → (let o = stepOf st start memory s in
+    o .answer .code ≡ 0 → (eqb (s .kind) 0 || eqb (s .kind) 2) ≡ true → eqb (s .offset) 0x20 ≡ false
+    → (k : ℕ) → k < 32 → bit (o .answer .value) k ≡ (bit (register st (s .offset)) k && bit (s .enables) (k / 8)))
+
+-- what a write cycle leaves of the memory: at the place of its address the lowest n bytes of the front word, the others as they were; all else as it was
+pub record Stores (st : State) (start : ℕ) (memory after : List ℕ) : Type 0 where
+  pub inside : placeOf start (st .fromAddon .address) < length memory
+  pub elsewhere : after ≡ set memory (placeOf start (st .fromAddon .address)) (getD after (placeOf start (st .fromAddon .address)) 0)
+  pub bytes :
+      (k : ℕ) → k < 32
+      → (let at = placeOf start (st .fromAddon .address) in
+      bit (getD after at 0) k ≡ cond (ltb (k / 8) (min 4 (st .fromAddon .count))) (bit (front (st .fromAddon .words)) k) (bit (getD memory at 0) k))
+
+-- `memory-rule`: a done write cycle stores; no other step touches the memory
+abbrev pub MemoryRule : Type 0
+MemoryRule =
+    (st : State) (start : ℕ) (memory : List ℕ) (s : Step)
+    → (let o = stepOf st start memory s in
+    let cycle = eqb (o .answer .code) 0 && eqb (s .kind) 4 in
+    (cycle ≡ false → o .memory ≡ memory) × (cycle ≡ true → Stores st start memory (o .memory)))
 
 -- a one is written to bit k of INTCSR, its byte enabled
 abbrev pub acknowledges : ℕ → Access → Bool
@@ -81,8 +119,9 @@ sets k st x =
     || eqb k 18 && (cycles addon (x .kind) && leb (st .fromAddon .count) 4)
     || eqb k 19 && (cycles pci (x .kind) && leb (st .fromPci .count) 4)
 
--- `event-rule`: after a done step that is no reset, each of bits 16 to 21 is set if something sets it, or it was and no one acknowledges it
+-- `event-rule`: after a done step that is no reset, each of bits 16 to 21 is set if something sets it, or it was and nobody acknowledges it
 abbrev pub EventRule : Type 0
 EventRule =
-    (k : ℕ) → 16 ≤ k → k ≤ 21 → (st : State) (x : Access) (word : ℕ) → isReset (x .kind) ≡ false
-    → bit (doneState st x word .intcsr) k ≡ (bit (st .intcsr) k && not (acknowledges k x) || sets k st x)
+    (k : ℕ) → 16 ≤ k → k ≤ 21 → (st : State) (start : ℕ) (memory : List ℕ) (s : Step)
+    → (let o = stepOf st start memory s in let x = accessOf s in
+    o .answer .code ≡ 0 → eqb (s .kind) 6 ≡ false → bit (o .state .intcsr) k ≡ (bit (st .intcsr) k && not (acknowledges k x) || sets k st x))

@@ -16,8 +16,12 @@ pub record Ran : Type 0 where
 abbrev pub Run : Type 0
 Run = State → ℕ → List ℕ → List Step → Ran
 
--- step by step, by a rule for one step
-abbrev pub runOf : (State → ℕ → List ℕ → Step → Outcome) → Run
+-- a rule for one step
+abbrev pub Rule : Type 0
+Rule = State → ℕ → List ℕ → Step → Outcome
+
+-- step by step
+abbrev pub runOf : Rule → Run
 runOf rule st start memory [] = record { state = st; memory = memory; events = [] }
 runOf rule st start memory (s ∷ ss) =
     let o = rule st start memory s in

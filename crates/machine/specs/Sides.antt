@@ -27,6 +27,10 @@ abbrev pub partyOf : Side → Party
 partyOf pci = host
 partyOf addon = card
 
+abbrev pub sideOf : Party → Side
+sideOf host = pci
+sideOf card = addon
+
 abbrev pub sameParty : Party → Party → Bool
 sameParty host host = true
 sameParty host card = false

@@ -11,7 +11,8 @@ pub record Lane : Type 0 where
   pub address : ℕ
   pub count : ℕ
 
--- mail has the eight mailbox words by their offset / 4; marks has a one for each full byte, as the status register shows them
+-- The numbers and lists may be any; a controller's are words of 32 bits and eight mailbox words.
+-- mail has the mailbox words by their offset / 4; marks has a one for each full byte, as the status register shows them
 pub record State : Type 0 where
   pub mail : List ℕ
   pub marks : ℕ

@@ -5,7 +5,7 @@ use mathlib.Core.List.{List}
 use lib.Dec.{eqb}
 use lib.ListN.{length, getD}
 use Rattle.machine.specs.Words.{bit, flag, byteMask, mask, cleared, raised, shown, merged, written, only}
-use Rattle.machine.specs.Sides.{Side, pci, addon, Party, host, card}
+use Rattle.machine.specs.Sides.{pci, addon, other, Party, sideOf}
 use Rattle.machine.specs.State.{State, lane, held, resetState}
 use Rattle.machine.specs.Access.{Access, accessOf, Kind, reading, writing, cycle, chipReset, unknown, isReset, cycles}
 use Rattle.machine.specs.Offsets.{isMailbox, mailbox, fifoPort, addressAt, countAt, statusAt, intcsrAt}
@@ -34,7 +34,7 @@ nothing = record { address = 0; value = 0; enables = 0 }
 abbrev pub showing : ℕ → Reply
 showing value = record { address = 0; value = value; enables = 0 }
 
--- the registers but the FIFO port; those of the Add-On's table are the same ones
+-- The registers but the FIFO port, which is read apart; those of the Add-On's table are the same ones. The last is MCSR: by code 4 no other offset comes here.
 unfoldable pub register : State → ℕ → ℕ
 register st offset =
     cond (isMailbox offset) (getD (st .mail) (mailbox offset) 0)
@@ -46,14 +46,9 @@ register st offset =
     (cond (eqb offset intcsrAt) (intcsrRead (st .intcsr))
     (mcsrRead st)))))))
 
--- the FIFO whose port a party reads: the one that the other side feeds
-abbrev pub readFifo : Party → Side
-readFifo host = addon
-readFifo card = pci
-
--- a read: the front word at the port, whose reads are whole by code 6; the enabled bytes of any other register
+-- a read: at the port the front word of the FIFO that the other side feeds, whole by code 6; the enabled bytes of any other register
 unfoldable pub readValue : Party → State → Access → ℕ
-readValue party st x = cond (eqb (x .offset) fifoPort) (front (held (readFifo party) st)) (shown (register st (x .offset)) (x .enables))
+readValue party st x = cond (eqb (x .offset) fifoPort) (front (held (other (sideOf party)) st)) (shown (register st (x .offset)) (x .enables))
 
 -- A done step: a read shows data; a cycle its address before the step, its word and the lowest n enables; writes and a reset nothing.
 unfoldable pub doneReply : Kind → State → ℕ → List ℕ → Access → Reply

@@ -2,17 +2,18 @@
 use Prim.Native.Nat.{ℕ, _≤_, _<_}
 use mathlib.Core.Path.{_≡_}
 use mathlib.Core.Bool.{Bool, true, false, cond, _||_}
-use mathlib.Core.List.{List, [], _∷_, _++_}
+use mathlib.Core.List.{List, [], _∷_, _++_, map}
 use lib.Dec.{eqb}
+use lib.ListN.{length}
 use Rattle.machine.specs.Words.{bit}
 use Rattle.machine.specs.Sides.{Side}
 use Rattle.machine.specs.State.{State, held, resetState}
-use Rattle.machine.specs.Access.{Access}
+use Rattle.machine.specs.Access.{Access, accessOf}
 use Rattle.machine.specs.Intcsr.{lineOf}
-use Rattle.machine.specs.Code.{codeOf, tests, isOutOfForm}
+use Rattle.machine.specs.Code.{tests, isOutOfForm}
 use Rattle.machine.specs.Step.{stepOf, notAFrame}
 use Rattle.machine.specs.Event.{Event}
-use Rattle.machine.specs.Run.{Run, run}
+use Rattle.machine.specs.Run.{Rule, runOf, run}
 use Rattle.machine.specs.Account.{tally, latest, isWrite, AllAlike, answers, Every, NoClear, Agreed}
 use Rattle.machine.specs.declared.Step.{Step}
 use Rattle.machine.specs.declared.Answer.{Answer}
@@ -71,7 +72,15 @@ pub record Lowest (code : ℕ) (ts : List (ℕ × Bool)) : Type 0 where
   pub least : (c : ℕ) → testOf c ts ≡ true → (eqb code 0 ≡ false) × (code ≤ c)
 
 abbrev pub LowestCode : Type 0
-LowestCode = (st : State) (start words : ℕ) (x : Access) → Lowest (codeOf st start words x) (tests st start words x)
+LowestCode =
+    (st : State) (start : ℕ) (memory : List ℕ) (s : Step)
+    → Lowest (stepOf st start memory s .answer .code) (tests st start (length memory) (accessOf s))
+
+-- `every-code`: the tests are those of the codes 1 to 13, each once, in that order
+abbrev pub EveryCode : Type 0
+EveryCode =
+    (st : State) (start words : ℕ) (x : Access)
+    → map (λ (t : ℕ × Bool). t .0) (tests st start words x) ≡ 1 ∷ 2 ∷ 3 ∷ 4 ∷ 5 ∷ 6 ∷ 7 ∷ 8 ∷ 9 ∷ 10 ∷ 11 ∷ 12 ∷ 13 ∷ []
 
 -- ---- form
 
@@ -88,13 +97,14 @@ NeverOutOfForm =
 -- ---- demand 3: from reset, for any list of steps, any start and any memory
 
 -- `fifo-account`: of each FIFO, the words let in since it was last emptied are the words handed out since, then the words still held, in order
-abbrev pub KeepsFifoAccount : Run → Type 0
-KeepsFifoAccount run =
+-- (a read cycle's word is the one that it answers); said of any rule for one step, so that it can be asked of worthless ones too
+abbrev pub KeepsFifoAccount : Rule → Type 0
+KeepsFifoAccount rule =
     (side : Side) (start : ℕ) (memory : List ℕ) (steps : List Step)
-    → (let r = run resetState start memory steps in let t = tally side (r .events) in t .letIn ≡ t .handedOut ++ held side (r .state))
+    → (let r = runOf rule resetState start memory steps in let t = tally side (r .events) in t .letIn ≡ t .handedOut ++ held side (r .state))
 
 abbrev pub FifoAccount : Type 0
-FifoAccount = KeepsFifoAccount run
+FifoAccount = KeepsFifoAccount stepOf
 
 -- `mail-account`: of the thirty-two mailbox bytes, one is full exactly if the latest of its owner's writes, the other side's reads, mailbox clears and resets,
 -- all of them done, was a write

@@ -1,4 +1,4 @@
--- Words, bytes and bits. "A step and its answer": enable bit i means that byte i takes part.
+-- Words, bytes and bits. "A step and its answer": enable bit i means that byte i takes part; the number is not active low, as the bus signals are.
 use Prim.Native.Nat.{ℕ, suc, _+_, _-_, _*_, _/_, _%_, _^_}
 use mathlib.Core.Bool.{Bool, cond}
 use lib.Dec.{eqb}
@@ -24,7 +24,7 @@ byteMask enables i = cond (bit enables i) (ones (8 * i) (8 * i + 7)) 0
 unfoldable pub mask : ℕ → ℕ
 mask enables = bitOr (bitOr (bitOr (byteMask enables 0) (byteMask enables 1)) (byteMask enables 2)) (byteMask enables 3)
 
--- x with zeros where the word y has ones
+-- the word x with zeros where the word y has ones
 unfoldable pub cleared : ℕ → ℕ → ℕ
 cleared x y = bitAnd x (ones 0 31 - y)
 

@@ -1,0 +1,77 @@
+-- What a read answers and what a step leaves of the memory.
+use Prim.Native.Nat.{ℕ, _/_, _<_}
+use mathlib.Core.Path.{_≡_, refl, _∙_}
+use mathlib.Core.Bool.{Bool, true, false, not, _&&_, _||_}
+use mathlib.Core.List.{List}
+use lib.Dec.{eqb}
+use lib.ListN.{length, getD, set}
+use lib.Seq.{getD-set-same}
+use borrow.Author.Tests.{eqb-true, ltb-true, not-false}
+use Rattle.machine.specs.Words.{bit, merged}
+use Rattle.machine.specs.Sides.{addon}
+use Rattle.machine.specs.State.{State, lane}
+use Rattle.machine.specs.Access.{Access, accessOf, kindOf, cycles}
+use Rattle.machine.specs.Fifos.{front}
+use Rattle.machine.specs.Window.{placeOf, inside}
+use Rattle.machine.specs.Cycles.{lowEnables, stored}
+use Rattle.machine.specs.Code.{codeOf, tests, isNoMemory}
+use Rattle.machine.specs.Step.{register, readValue, doneReply, replyOf, answered, memoryAfter, respond, stepOf}
+use Rattle.machine.specs.Readings.{ReadAnswers, Stores, MemoryRule}
+use Rattle.machine.specs.declared.Step.{Step}
+use Rattle.machine.proofs.Tests.{none-applies, neither, and-left, and-right, and-at}
+use Rattle.machine.proofs.Numbers.{named}
+use Rattle.machine.proofs.Bytes.{bit-shown, bit-merged}
+use Rattle.machine.proofs.Readings.{low-enables}
+
+-- ---- reads
+
+read-value : (st : State) (start : ℕ) (memory : List ℕ) (s : Step) → (eqb (s .kind) 0 || eqb (s .kind) 2) ≡ true → eqb (s .offset) 0x20 ≡ false
+    → (k : ℕ) → k < 32
+    → bit (doneReply (kindOf (s .kind)) st start memory (accessOf s) .value) k ≡ (bit (register st (s .offset)) k && bit (s .enables) (k / 8))
+unfolding doneReply readValue
+read-value st start memory s r p k h = by (eqb (s .kind) 0) refl
+  where
+    by : (b : Bool) → eqb (s .kind) 0 ≡ b
+        → bit (doneReply (kindOf (s .kind)) st start memory (accessOf s) .value) k ≡ (bit (register st (s .offset)) k && bit (s .enables) (k / 8))
+    by true e = rw (eqb-true (s .kind) 0 e, p) (bit-shown k h (register st (s .offset)) (s .enables))
+    by false e = rw (eqb-true (s .kind) 2 (rw e at r), p) (bit-shown k h (register st (s .offset)) (s .enables))
+
+pub read-answers : ReadAnswers
+unfolding stepOf respond answered replyOf
+read-answers st start memory s e r p k h = rw e (read-value st start memory s r p k h)
+
+-- ---- memory
+
+-- code 13: a done write cycle's place is in the memory
+place-inside : (st : State) (start : ℕ) (memory : List ℕ) (x : Access) → codeOf st start (length memory) x ≡ 0 → cycles addon (x .kind) ≡ true
+    → placeOf start (st .fromAddon .address) < length memory
+unfolding codeOf isNoMemory
+place-inside st start memory x e c =
+    let none = none-applies (tests st start (length memory) x) refl e 13 in
+    ltb-true _ (length memory)
+    (not-false _ (and-at (cycles addon (x .kind)) _ c (neither (λ side. cycles side (x .kind) && not (inside start (length memory) (lane side st .address))) none addon)))
+
+stores : (st : State) (start : ℕ) (memory : List ℕ) → placeOf start (st .fromAddon .address) < length memory → Stores st start memory (stored st start memory)
+unfolding stored
+stores st start memory p =
+    let at = placeOf start (st .fromAddon .address) in
+    let w = merged (getD memory at 0) (front (st .fromAddon .words)) (lowEnables (st .fromAddon .count)) in
+    let there : getD (set memory at w) at 0 ≡ w = getD-set-same memory at w 0 p in
+    record {
+      inside = p;
+      elsewhere = rw there;
+      bytes = λ k h. rw (there, bit-merged k h, low-enables);
+    }
+
+pub memory-rule : MemoryRule
+unfolding stepOf respond answered memoryAfter
+memory-rule st start memory s =
+    let x = accessOf s in
+    let code = codeOf st start (length memory) x in
+    let c = named (s .kind) .writeCycle in (
+      λ e. rw (c, e),
+      λ e.
+          rw (c, e)
+          (stores st start memory
+          (place-inside st start memory x (eqb-true code 0 (and-left (eqb code 0) (eqb (s .kind) 4) e)) (c ∙ and-right (eqb code 0) (eqb (s .kind) 4) e))),
+    )
