@@ -37,7 +37,7 @@ bit-marks o e k m =
         rw (le-ltb (k - o) 4 far)
     at false q false p = refl
 
-marks-lt : (o e : ℕ) → isMailbox o ≡ true → marksAt o e < 2 ^ 32
+pub marks-lt : (o e : ℕ) → isMailbox o ≡ true → marksAt o e < 2 ^ 32
 unfolding marksAt
 marks-lt o e m =
     let l = ltb-true o 0x20 (and-left (ltb o 0x20) (eqb (o % 4) 0) m) in

@@ -1,0 +1,112 @@
+// INTCSR: what it keeps, the events, the interrupt line.
+ghost use mathlib.Core.Path.{_≡_};
+ghost use Rattle.machine.specs.Access.{accessOf, kindOf};
+ghost use Rattle.machine.specs.Intcsr.{intcsrWritten, outgoingEvent, incomingEvent, intcsrAfter, intcsrAborted, lineOf, intcsrRead, abortIn};
+ghost use Rattle.controller.specs.Controller.{stateOf};
+use controller::Controller;
+use machine::Step;
+use machine::kinds;
+use machine::offsets;
+
+// The bits that it keeps, 0 to 4, 8 to 12, 14, 15, and those that events set, 16 to 21.
+pub const KEPT: u32 = 0x0000_DF1F;
+
+pub const EVENTS: u32 = 0x003F_0000;
+// The enables of the events and of the line.
+const OUTGOING_ENABLE: u32 = 4;
+
+const INCOMING_ENABLE: u32 = 12;
+
+const WRITE_COUNT_ENABLE: u32 = 14;
+
+const READ_COUNT_ENABLE: u32 = 15;
+// The flags.
+const OUTGOING: u32 = 16;
+
+const INCOMING: u32 = 17;
+
+const WRITE_COUNT: u32 = 18;
+
+const READ_COUNT: u32 = 19;
+
+const MASTER_ABORT: u32 = 20;
+
+const TARGET_ABORT: u32 = 21;
+
+const LINE: u32 = 23;
+
+// After a write: the kept bits are stored, a one written to a flag clears it.
+pub fn written(old: u32, new: u32, enables: u32) -> u32
+    ensures { λ r. ⌜ r ≡ intcsrWritten old new enables ⌝ }
+{
+    word::written(KEPT, old, new, enables) | word::cleared(old & EVENTS, word::shown(new, enables))
+}
+
+// The Add-On reads the chosen outgoing byte, and the event is enabled.
+pub fn outgoing_event(i: u32, s: Step) -> bool
+    ensures { λ r. ⌜ r ≡ outgoingEvent i (accessOf s) ⌝ }
+{
+    word::bit(i, OUTGOING_ENABLE) & mailboxes::takes_byte(i % 16, s)
+}
+
+// The Add-On writes the chosen incoming byte, and the event is enabled.
+pub fn incoming_event(i: u32, s: Step) -> bool
+    ensures { λ r. ⌜ r ≡ incomingEvent i (accessOf s) ⌝ }
+{
+    word::bit(i, INCOMING_ENABLE) & mailboxes::fills_byte(16 + (i >> 8) % 16, s)
+}
+
+// INTCSR after a done step.
+pub fn intcsr_after(c: Controller, s: Step) -> u32
+    ensures { λ r. ⌜ r ≡ intcsrAfter (kindOf (s .kind)) (stateOf c) (accessOf s) ⌝ }
+{
+    let i = c.intcsr;
+    if s.kind == kinds::ADDON_READ {
+        return word::raised(i, outgoing_event(i, s), OUTGOING);
+    }
+    if (s.kind == kinds::PCI_WRITE) & (s.offset == offsets::INTCSR) {
+        return written(i, s.value, s.enables);
+    }
+    if s.kind == kinds::ADDON_WRITE {
+        return word::raised(i, incoming_event(i, s), INCOMING);
+    }
+    if s.kind == kinds::WRITE_CYCLE {
+        return word::raised(i, transfers::runs_out(c.from_addon.count), WRITE_COUNT);
+    }
+    if s.kind == kinds::READ_CYCLE {
+        return word::raised(i, transfers::runs_out(c.from_pci.count), READ_COUNT);
+    }
+    i
+}
+
+// Whether an abort stands.
+pub fn is_abort_in(i: u32) -> bool
+    ensures { λ r. ⌜ r ≡ abortIn i ⌝ }
+{
+    word::bit(i, MASTER_ABORT) | word::bit(i, TARGET_ABORT)
+}
+
+// After code 13.
+pub fn aborted(i: u32) -> u32
+    ensures { λ r. ⌜ r ≡ intcsrAborted i ⌝ }
+{
+    word::raised(i, true, MASTER_ABORT)
+}
+
+// The interrupt line.
+pub fn line(i: u32) -> bool
+    ensures { λ r. ⌜ r ≡ lineOf i ⌝ }
+{
+    word::bit(i, OUTGOING) & word::bit(i, OUTGOING_ENABLE)
+        | word::bit(i, INCOMING) & word::bit(i, INCOMING_ENABLE)
+        | word::bit(i, WRITE_COUNT) & word::bit(i, WRITE_COUNT_ENABLE)
+        | word::bit(i, READ_COUNT) & word::bit(i, READ_COUNT_ENABLE)
+        | is_abort_in(i)
+}
+
+// INTCSR as it is read: the line at bit 23.
+pub fn read(i: u32) -> u32
+    ensures { λ r. ⌜ r ≡ intcsrRead i ⌝ }
+{
+    word::raised(i, line(i), LINE)
+}

@@ -1,0 +1,14 @@
+use native.Mathlib.Omega.{arith}
+use borrow.Author.Tests.{lt-ltb, le-ltb}
+use Rattle.machine.proofs.Numbers.{named}
+use Rattle.mailboxes.proofs.is_owner_write.Statement.{statement}
+use Rattle.mailboxes.proofs.is_owner_write.Tie as tie
+
+returns : tie.Need-returns
+returns c = simp (lt-ltb (c .before .before .before .args .s .offset) 16 (omega arith), named (c .before .before .before .args .s .kind) .pciWrite)
+
+returns-2 : tie.Need-returns-2
+returns-2 c = simp (le-ltb (c .before .before .before .args .s .offset) 16 (omega arith), named (c .before .before .before .args .s .kind) .addonWrite)
+
+pub is-owner-write-spec : {M : Type 1} → statement M
+is-owner-write-spec = tie.close (tie.spec returns returns-2)

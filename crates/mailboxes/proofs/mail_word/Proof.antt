@@ -1,0 +1,13 @@
+use Prim.Native.Nat.{_/_}
+use mathlib.Core.Path.{sym}
+use native.Mathlib.Omega.{arith}
+use lib.ListN.{List·getD-eq-default}
+use borrow.Author.Needs.{needs}
+use Rattle.mailboxes.proofs.mail_word.Statement.{statement}
+use Rattle.mailboxes.proofs.mail_word.Tie as tie
+
+returns-2 : tie.Need-returns-2
+returns-2 c = sym (List·getD-eq-default (c .before .args .t1) 0 {n = c .before .args .offset / 4} (omega arith))
+
+pub mail-word-spec : {M : Type 1} → statement M
+mail-word-spec = tie.close (tie.spec (λ c. search needs) (λ c. search needs) (λ c. search needs) (λ c. search needs) returns-2)

@@ -1,0 +1,121 @@
+// The mailboxes: their words, and for each byte a mark that says whether it is full.
+ghost use mathlib.Core.Path.{_≡_};
+ghost use mathlib.Core.Bool.{true};
+ghost use Rattle.machine.specs.Access.{accessOf, kindOf, isReadBy, isWriteBy};
+ghost use lib.ListN.{getD};
+ghost use Rattle.machine.specs.Offsets.{isMailbox, mailbox, writer, reader};
+ghost use Rattle.machine.specs.Mailboxes.{marksAt, fills, takes, fillsByte, takesByte, marksAfter, mailAfter};
+use machine::Step;
+use machine::kinds;
+use machine::offsets;
+
+// Whether an offset is that of a mailbox.
+pub fn is_mailbox(offset: u32) -> bool
+    ensures { λ r. ⌜ r ≡ isMailbox offset ⌝ }
+{
+    (offset < offsets::FIFO_PORT) & (offset % 4 == 0)
+}
+
+// Whether the step is a write by the owner of the mailbox at its offset: PCI of an outgoing one, the Add-On of an incoming one.
+fn is_owner_write(s: Step) -> bool
+    ensures { λ r. ⌜ r ≡ isWriteBy (writer (s .offset)) (kindOf (s .kind)) ⌝ }
+{
+    if s.offset < offsets::INCOMING {
+        return s.kind == kinds::PCI_WRITE;
+    }
+    s.kind == kinds::ADDON_WRITE
+}
+
+// Whether it is a read by the other side.
+fn is_other_read(s: Step) -> bool
+    ensures { λ r. ⌜ r ≡ isReadBy (reader (s .offset)) (kindOf (s .kind)) ⌝ }
+{
+    if s.offset < offsets::INCOMING {
+        return s.kind == kinds::ADDON_READ;
+    }
+    s.kind == kinds::PCI_READ
+}
+
+// A write by the owner.
+pub fn fills(s: Step) -> bool
+    ensures { λ r. ⌜ r ≡ fills (accessOf s) ⌝ }
+{
+    is_owner_write(s) & is_mailbox(s.offset)
+}
+
+// A read by the other side.
+pub fn takes(s: Step) -> bool
+    ensures { λ r. ⌜ r ≡ takes (accessOf s) ⌝ }
+{
+    is_other_read(s) & is_mailbox(s.offset)
+}
+
+// The marks of the enabled bytes of a mailbox.
+fn marks_at(offset: u32, enables: u32) -> u32
+    requires { ⌜ isMailbox offset ≡ true ⌝ }
+    ensures { λ r. ⌜ r ≡ marksAt offset enables ⌝ }
+{
+    (enables % 16) << offset
+}
+
+// The owner's write to byte k, that byte enabled.
+pub fn fills_byte(k: u32, s: Step) -> bool
+    ensures { λ r. ⌜ r ≡ fillsByte k (accessOf s) ⌝ }
+{
+    if fills(s) {
+        word::bit(marks_at(s.offset, s.enables), k)
+    } else {
+        false
+    }
+}
+
+// The other side's read of byte k, that byte enabled.
+pub fn takes_byte(k: u32, s: Step) -> bool
+    ensures { λ r. ⌜ r ≡ takesByte k (accessOf s) ⌝ }
+{
+    if takes(s) {
+        word::bit(marks_at(s.offset, s.enables), k)
+    } else {
+        false
+    }
+}
+
+// The marks after a done step.
+pub fn marks_after(s: Step, marks: u32) -> u32
+    ensures { λ r. ⌜ r ≡ marksAfter (accessOf s) marks ⌝ }
+{
+    if mcsr::clears_marks(s) {
+        return 0;
+    }
+    if fills(s) {
+        return marks | marks_at(s.offset, s.enables);
+    }
+    if takes(s) {
+        return word::cleared(marks, marks_at(s.offset, s.enables));
+    }
+    marks
+}
+
+// The words after a done step.
+pub fn mail_after(s: Step, mail: [u32; 8]) -> [u32; 8]
+    ensures { λ r. ⌜ r ≡ mailAfter (accessOf s) mail ⌝ }
+{
+    if fills(s) {
+        let at = (s.offset / 4) as usize;
+        let mut next = mail;
+        next[at] = word::merged(mail[at], s.value, s.enables);
+        return next;
+    }
+    mail
+}
+
+// The word of the mailbox at an offset, or zero where there is none.
+pub fn mail_word(mail: [u32; 8], offset: u32) -> u32
+    ensures { λ r. ⌜ r ≡ getD mail (mailbox offset) 0 ⌝ }
+{
+    if offset < offsets::FIFO_PORT {
+        let at = (offset / 4) as usize;
+        return mail[at];
+    }
+    0
+}

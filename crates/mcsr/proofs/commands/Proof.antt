@@ -1,0 +1,10 @@
+use Rattle.machine.proofs.Numbers.{named}
+use borrow.Author.Needs.{needs}
+use Rattle.mcsr.proofs.commands.Statement.{statement}
+use Rattle.mcsr.proofs.commands.Tie as tie
+
+returns : tie.Need-returns
+returns c = simp (named (c .before .before .before .before .args .s .kind) .pciWrite, c .bit2 .ensures, c .before .bit .ensures)
+
+pub commands-spec : {M : Type 1} → statement M
+commands-spec = tie.close (tie.spec (λ c κs. search needs) (λ c κs. search needs) returns)

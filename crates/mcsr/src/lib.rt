@@ -1,0 +1,110 @@
+// MCSR: what writing it commands, what it keeps, and its status.
+ghost use mathlib.Core.Path.{_≡_};
+ghost use mathlib.Core.Bool.{cond};
+ghost use Rattle.fifo.specs.Held.{held};
+ghost use Rattle.machine.specs.Sides.{pci, addon};
+ghost use Rattle.machine.specs.Access.{accessOf};
+ghost use Rattle.machine.specs.Commands.{commands, clearsMarks, clearsFifo};
+ghost use Rattle.machine.specs.Mcsr.{mcsrAfter, fifoStatus, mcsrRead};
+ghost use Rattle.controller.specs.Controller.{stateOf};
+use controller::Controller;
+use fifo::Fifo;
+use machine::Step;
+use machine::kinds;
+use machine::offsets;
+
+// The bits that it keeps: 15 to 12 and 10 to 8.
+pub const KEPT: u32 = 0x0000_F700;
+// Enables and thresholds of the cycles.
+pub const WRITE_ENABLE: u32 = 10;
+
+pub const READ_ENABLE: u32 = 14;
+
+pub const WRITE_FOUR: u32 = 9;
+
+pub const READ_FOUR: u32 = 13;
+// Commands.
+const CLEAR_MARKS: u32 = 27;
+
+const CLEAR_FROM_ADDON: u32 = 26;
+
+const CLEAR_FROM_PCI: u32 = 25;
+// Status: the counts, then the FIFO from the Add-On above the FIFO from PCI, each empty, four or more, full.
+const WRITE_COUNT_ZERO: u32 = 0x80;
+
+const READ_COUNT_ZERO: u32 = 0x40;
+
+const EMPTY: u32 = 0x04;
+
+const FOUR: u32 = 0x02;
+
+const FULL: u32 = 0x01;
+
+// Whether the step writes a one to bit k of its highest byte, that byte enabled.
+fn commands(k: u32, s: Step) -> bool
+    ensures { λ r. ⌜ r ≡ commands pci k (accessOf s) ⌝ }
+{
+    (s.kind == kinds::PCI_WRITE)
+        & (s.offset == offsets::MCSR)
+        & word::bit(s.enables, 3)
+        & word::bit(s.value, k)
+}
+
+pub fn clears_marks(s: Step) -> bool
+    ensures { λ r. ⌜ r ≡ clearsMarks (accessOf s) ⌝ }
+{
+    commands(CLEAR_MARKS, s)
+}
+
+pub fn clears_from_pci(s: Step) -> bool
+    ensures { λ r. ⌜ r ≡ clearsFifo pci (accessOf s) ⌝ }
+{
+    commands(CLEAR_FROM_PCI, s)
+}
+
+pub fn clears_from_addon(s: Step) -> bool
+    ensures { λ r. ⌜ r ≡ clearsFifo addon (accessOf s) ⌝ }
+{
+    commands(CLEAR_FROM_ADDON, s)
+}
+
+// MCSR after a done step.
+pub fn mcsr_after(s: Step, old: u32) -> u32
+    ensures { λ r. ⌜ r ≡ mcsrAfter (accessOf s) old ⌝ }
+{
+    if (s.kind == kinds::PCI_WRITE) & (s.offset == offsets::MCSR) {
+        return word::written(KEPT, old, s.value, s.enables);
+    }
+    old
+}
+
+fn flag(on: bool, one: u32) -> u32
+    ensures { λ r. ⌜ r ≡ cond on one 0 ⌝ }
+{
+    if on { one } else { 0 }
+}
+
+// The status of the FIFO from PCI.
+pub fn from_pci_status(f: Fifo) -> u32
+    ensures { λ r. ⌜ r ≡ fifoStatus pci (held f) ⌝ }
+{
+    flag(fifo::is_empty(f), EMPTY) | flag(4 <= fifo::room(f).0, FOUR) | flag(fifo::is_full(f), FULL)
+}
+
+// The status of the FIFO from the Add-On.
+pub fn from_addon_status(f: Fifo) -> u32
+    ensures { λ r. ⌜ r ≡ fifoStatus addon (held f) ⌝ }
+{
+    flag(fifo::is_empty(f), EMPTY) | flag(4 <= fifo::fill(f).0, FOUR) | flag(fifo::is_full(f), FULL)
+}
+
+// MCSR as it is read.
+pub fn mcsr_read(c: Controller) -> u32
+    ensures { λ r. ⌜ r ≡ mcsrRead (stateOf c) ⌝ }
+{
+    let write_zero = flag(c.from_addon.count.0 == 0, WRITE_COUNT_ZERO);
+    let read_zero = flag(c.from_pci.count.0 == 0, READ_COUNT_ZERO);
+    let out = from_addon_status(c.from_addon.fifo);
+    let back = from_pci_status(c.from_pci.fifo);
+    c.mcsr | (write_zero | read_zero | (out * 8 | back))
+}

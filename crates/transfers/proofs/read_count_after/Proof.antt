@@ -1,0 +1,12 @@
+use Rattle.machine.specs.Cycles.{countAfter}
+use Rattle.machine.proofs.Numbers.{named}
+use borrow.Author.Needs.{needs}
+use Rattle.transfers.proofs.read_count_after.Statement.{statement}
+use Rattle.transfers.proofs.read_count_after.Tie as tie
+
+returns : tie.Need-returns
+unfolding countAfter
+returns c = let k = named (c .before .args .s .kind) in simp (k .pciWrite, k .readCycle) (c .count-after .ensures)
+
+pub read-count-after-spec : {M : Type 1} → statement M
+read-count-after-spec = tie.close (tie.spec (λ c κs. search needs) returns)
