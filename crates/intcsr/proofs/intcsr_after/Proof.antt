@@ -15,7 +15,7 @@ returns c = simp (c .raised .ensures, c .before .outgoing-event .ensures) (rw (c
 
 returns-2 : tie.Need-returns-2
 unfolding stateOf intcsrAfter
-returns-2 c = 
+returns-2 c =
     let s = c .before .before .before .before .before .before .args .s in
     let here = c .before .if2 .taken in
     rw (eqb-true (s .kind) 1 (and-left (eqb (s .kind) 1) (eqb (s .offset) 0x38) here), and-right (eqb (s .kind) 1) (eqb (s .offset) 0x38) here)
@@ -35,7 +35,7 @@ returns-5 c = rw (c .before .before .if5 .taken) (simp (c .raised4 .ensures, c .
 
 returns-6 : tie.Need-returns-6
 unfolding stateOf
-returns-6 c = 
+returns-6 c =
     let a = c .before .before .before .before .before .before .before .before .before .before .before .args in
     untouched (a .s .kind) (stateOf (a .c)) (accessOf (a .s)) (c .before .before .before .before .before .before .before .before .before .if1 .left) (c .before .before .before .before .if3 .left) (c .before .before .if4 .left) (c .if5 .left) (c .before .before .before .before .before .before .if2 .left)
 
