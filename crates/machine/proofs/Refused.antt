@@ -12,8 +12,7 @@ use Rattle.machine.specs.Access.{Access, accessOf, kindOf}
 use Rattle.machine.specs.Intcsr.{lineOf, intcsrAborted}
 use Rattle.machine.specs.Code.{codeOf, tests, firstOf}
 use Rattle.machine.specs.Step.{notAFrame, stepOf, respond, stateAfter, memoryAfter, answered, replyOf, abortedReply, abortedState}
-use Rattle.machine.specs.Theorems.{Numbered, Refused, NotAFrame, Aborted, AbortOnly, cycleAddress, testOf, Lowest, LowestCode, EveryCode}
-use Rattle.machine.specs.declared.Step.{Step}
+use Rattle.machine.specs.Theorems.{Numbered, Refused, NotAFrame, Aborted, AbortOnly, testOf, Lowest, LowestCode, EveryCode}
 use Rattle.machine.proofs.Tests.{and-left, and-right}
 use Rattle.machine.proofs.Bits.{bit-raised}
 
@@ -123,27 +122,23 @@ aborted-line : (st : State) → lineOf (abortedState st .intcsr) ≡ true
 unfolding abortedState lineOf intcsrAborted
 aborted-line st = simp (bit-raised (st .intcsr) true 20 20, or-true, true-or)
 
-aborted-address : (st : State) (s : Step)
-    → abortedReply (kindOf (s .kind)) st ≡ record { address = cycleAddress st s; value = 0; enables = 0 }
+pub aborted-reply : (st : State) (k : ℕ)
+    → abortedReply (kindOf k) st ≡ record { address = cond (eqb k 4) (st .fromAddon .address) (cond (eqb k 5) (st .fromPci .address) 0); value = 0; enables = 0 }
 unfolding abortedReply
-aborted-address st s = by (s .kind)
-  where
-    by : (k : ℕ)
-        → abortedReply (kindOf k) st ≡ record { address = cond (eqb k 4) (st .fromAddon .address) (cond (eqb k 5) (st .fromPci .address) 0); value = 0; enables = 0 }
-    by zero = refl
-    by (suc zero) = refl
-    by (suc (suc zero)) = refl
-    by (suc (suc (suc zero))) = refl
-    by (suc (suc (suc (suc zero)))) = refl
-    by (suc (suc (suc (suc (suc zero))))) = refl
-    by (suc (suc (suc (suc (suc (suc zero)))))) = refl
-    by (suc (suc (suc (suc (suc (suc (suc n))))))) =
-        let k = suc (suc (suc (suc (suc (suc (suc n)))))) in rw (ne-eqb k 4 (λ q. omega arith), ne-eqb k 5 (λ q. omega arith))
+aborted-reply st zero = refl
+aborted-reply st (suc zero) = refl
+aborted-reply st (suc (suc zero)) = refl
+aborted-reply st (suc (suc (suc zero))) = refl
+aborted-reply st (suc (suc (suc (suc zero)))) = refl
+aborted-reply st (suc (suc (suc (suc (suc zero))))) = refl
+aborted-reply st (suc (suc (suc (suc (suc (suc zero)))))) = refl
+aborted-reply st (suc (suc (suc (suc (suc (suc (suc n))))))) =
+    let k = suc (suc (suc (suc (suc (suc (suc n)))))) in rw (ne-eqb k 4 (λ q. omega arith), ne-eqb k 5 (λ q. omega arith))
 
 pub aborted : Aborted
 unfolding stepOf respond stateAfter memoryAfter answered replyOf
 aborted st start memory s e =
     let after : stepOf st start memory s .state ≡ abortedState st = rw e in (
       rw after (abort-only st),
-      (rw e, rw e (λ i. record { code = 13; address = aborted-address st s i .address; value = aborted-address st s i .value; enables = aborted-address st s i .enables; line = aborted-line st i })),
+      (rw e, rw e (λ i. record { code = 13; address = aborted-reply st (s .kind) i .address; value = aborted-reply st (s .kind) i .value; enables = aborted-reply st (s .kind) i .enables; line = aborted-line st i })),
     )

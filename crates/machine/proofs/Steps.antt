@@ -8,7 +8,7 @@ use lib.ListN.{length, getD, set}
 use lib.Seq.{getD-set-same}
 use borrow.Author.Tests.{eqb-true, ltb-true, not-false}
 use Rattle.machine.specs.Words.{bit, merged}
-use Rattle.machine.specs.Sides.{addon}
+use Rattle.machine.specs.Sides.{Side, addon}
 use Rattle.machine.specs.State.{State, lane}
 use Rattle.machine.specs.Access.{Access, accessOf, kindOf, cycles}
 use Rattle.machine.specs.Fifos.{front}
@@ -42,14 +42,14 @@ read-answers st start memory s e r p k h = rw e (read-value st start memory s r 
 
 -- ---- memory
 
--- code 13: a done write cycle's place is in the memory
-place-inside : (st : State) (start : ℕ) (memory : List ℕ) (x : Access) → codeOf st start (length memory) x ≡ 0 → cycles addon (x .kind) ≡ true
-    → placeOf start (st .fromAddon .address) < length memory
+-- code 13: a done cycle's place is in the memory
+pub place-inside : (side : Side) (st : State) (start words : ℕ) (x : Access) → codeOf st start words x ≡ 0 → cycles side (x .kind) ≡ true
+    → placeOf start (lane side st .address) < words
 unfolding codeOf isNoMemory
-place-inside st start memory x e c =
-    let none = none-applies (tests st start (length memory) x) refl e 13 in
-    ltb-true _ (length memory)
-    (not-false _ (and-at (cycles addon (x .kind)) _ c (neither (λ side. cycles side (x .kind) && not (inside start (length memory) (lane side st .address))) none addon)))
+place-inside side st start words x e c =
+    let none = none-applies (tests st start words x) refl e 13 in
+    ltb-true _ words
+    (not-false _ (and-at (cycles side (x .kind)) _ c (neither (λ of. cycles of (x .kind) && not (inside start words (lane of st .address))) none side)))
 
 stores : (st : State) (start : ℕ) (memory : List ℕ) → placeOf start (st .fromAddon .address) < length memory → Stores st start memory (stored st start memory)
 unfolding stored
@@ -73,5 +73,5 @@ memory-rule st start memory s =
       λ e.
           rw (c, e)
           (stores st start memory
-          (place-inside st start memory x (eqb-true code 0 (and-left (eqb code 0) (eqb (s .kind) 4) e)) (c ∙ and-right (eqb code 0) (eqb (s .kind) 4) e))),
+          (place-inside addon st start (length memory) x (eqb-true code 0 (and-left (eqb code 0) (eqb (s .kind) 4) e)) (c ∙ and-right (eqb code 0) (eqb (s .kind) 4) e))),
     )

@@ -10,7 +10,7 @@ use Rattle.reads.proofs.register.Tie as tie
 
 returns : tie.Need-returns
 unfolding stateOf register
-returns c = 
+returns c =
     let box : isMailbox (c .before .before .before .before .args .offset) ≡ true = sym (c .before .before .before .is-mailbox .ensures) ∙ c .before .before .if1 .taken in
     simp (box, c .mail-word .ensures)
 
@@ -40,7 +40,7 @@ returns-7 c = rw (c .before .if7 .taken) (c .read .ensures)
 
 returns-8 : tie.Need-returns-8
 unfolding register
-returns-8 c = 
+returns-8 c =
     let none : isMailbox (c .before .before .before .before .before .before .before .before .before .args .offset) ≡ false = sym (c .before .before .before .before .before .before .before .before .is-mailbox .ensures) ∙ c .before .before .before .before .before .before .before .if1 .left in
     simp (none, ne-eqb _ _ (c .before .if7 .left), ne-eqb _ _ (c .before .before .if6 .left), ne-eqb _ _ (c .before .before .before .if5 .left), ne-eqb _ _ (c .before .before .before .before .if4 .left), ne-eqb _ _ (c .before .before .before .before .before .if3 .left), ne-eqb _ _ (c .before .before .before .before .before .before .if2 .left), c .mcsr-read .ensures)
 

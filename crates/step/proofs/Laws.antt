@@ -1,0 +1,57 @@
+-- What the proofs of the step need of the machine's rules.
+use Prim.Native.Nat.{ℕ, zero, suc, _<_, _≤_}
+use mathlib.Core.Path.{_≡_, refl, sym, _∙_}
+use mathlib.Core.Bool.{Bool, true, false, _&&_, _||_}
+use mathlib.Core.List.{List}
+use lib.ListN.{length}
+use native.Mathlib.Omega.{arith}
+use borrow.Author.Tests.{lt-leb, ltb-false}
+use Rattle.machine.specs.Sides.{Side, other}
+use Rattle.machine.specs.State.{State, held}
+use Rattle.machine.specs.Access.{Access, accessOf, kindOf, reads, writes}
+use Rattle.machine.specs.Offsets.{fifoPort}
+use Rattle.machine.specs.Commands.{clearsFifo}
+use Rattle.machine.specs.Fifos.{isFull, cycleFeeds, cycleTakes, fifoAfter}
+use Rattle.machine.specs.Code.{codeOf, tests}
+use Rattle.machine.specs.Step.{nothing, doneReply}
+use Rattle.machine.specs.declared.Step.{Step}
+use Rattle.machine.proofs.Numbers.{named}
+use Rattle.machine.proofs.Tests.{none-applies}
+use Rattle.machine.proofs.Form.{room-to-write, room-to-read}
+
+-- a FIFO that a step neither clears, feeds nor empties
+pub fifo-same : (side : Side) (x : Access) (word : ℕ) (ws : List ℕ) → clearsFifo side x ≡ false → cycleFeeds side x ≡ false → writes side fifoPort x ≡ false
+    → (cycleTakes side x || reads (other side) fifoPort x) ≡ false → ws ≡ fifoAfter side x word ws
+fifo-same side x word ws c f w t = rw (c, f, w, t)
+
+-- code 0: there is room for what comes in
+room-if : (a b f : Bool) → (a ≡ true → f ≡ false) → (b ≡ true → f ≡ false) → ((a || b) && f) ≡ false
+room-if true b f p q = p refl
+room-if false true f p q = q refl
+room-if false false f p q = refl
+
+not-full : (ws : List ℕ) → length ws < 8 → isFull ws ≡ false
+not-full ws h = lt-leb 8 (length ws) h
+
+module _ (st : State) (start words : ℕ) (x : Access) (e : codeOf st start words x ≡ 0) where
+  pub room : (side : Side) → ((cycleFeeds side x || writes side fifoPort x) && isFull (held side st)) ≡ false
+  unfolding codeOf
+  room side =
+      let none = none-applies (tests st start words x) refl e in
+      room-if (cycleFeeds side x) (writes side fifoPort x) (isFull (held side st))
+      (λ c. not-full (held side st) (room-to-read side st x (none 12) c))
+      (λ w. not-full (held side st) (room-to-write side st x (none 8) w))
+
+-- code 0: the kind is known
+pub known-kind : (st : State) (start words : ℕ) (s : Step) → codeOf st start words (accessOf s) ≡ 0 → s .kind ≤ 6
+unfolding codeOf
+known-kind st start words s e = ltb-false 6 (s .kind) (sym (named (s .kind) .unknown) ∙ none-applies (tests st start words (accessOf s)) refl e 3)
+
+-- a write shows nothing
+pub write-shows : (k : ℕ) (st : State) (start : ℕ) (memory : List ℕ) (x : Access) → k < 4 → (k ≡ 0 → ⊥) → (k ≡ 2 → ⊥) → doneReply (kindOf k) st start memory x ≡ nothing
+unfolding doneReply
+write-shows zero st start memory x h zero′ two = absurd (zero′ refl)
+write-shows (suc zero) st start memory x h zero′ two = refl
+write-shows (suc (suc zero)) st start memory x h zero′ two = absurd (two refl)
+write-shows (suc (suc (suc zero))) st start memory x h zero′ two = refl
+write-shows (suc (suc (suc (suc n)))) st start memory x h zero′ two = absurd (omega arith)

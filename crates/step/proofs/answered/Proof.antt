@@ -1,0 +1,13 @@
+use mathlib.Core.Path.{refl}
+use Rattle.machine.specs.Step.{answered}
+use Rattle.controller.specs.Controller.{stateOf}
+use borrow.Author.Needs.{needs}
+use Rattle.step.proofs.answered.Statement.{statement}
+use Rattle.step.proofs.answered.Tie as tie
+
+returns : tie.Need-returns
+unfolding stateOf answered
+returns c = (refl, simp (c .line .ensures))
+
+pub answered-spec : {M : Type 1} → statement M
+answered-spec = tie.close (tie.spec (λ c κs. search needs) returns)

@@ -1,0 +1,56 @@
+use mathlib.Core.Path.{_≡_, sym, _∙_}
+use mathlib.Core.Bool.{true, false, _&&_}
+use lib.Dec.{eqb}
+use borrow.Author.Tests.{eqb-true, ne-eqb}
+use Rattle.machine.specs.Sides.{pci}
+use Rattle.machine.specs.Access.{accessOf}
+use Rattle.machine.specs.Commands.{clearsFifo}
+use Rattle.machine.specs.Fifos.{isFull}
+use Rattle.machine.proofs.Tests.{and-left, and-right}
+use Rattle.machine.proofs.Numbers.{named}
+use Rattle.fifo.specs.Held.{held}
+use Rattle.step.proofs.Laws.{fifo-same}
+use borrow.Author.Needs.{needs}
+use Rattle.step.proofs.from_pci_fifo.Statement.{statement}
+use Rattle.step.proofs.from_pci_fifo.Tie as tie
+
+returns : tie.Need-returns
+returns c =
+    let on : clearsFifo pci (accessOf (c .before .before .before .args .s)) ≡ true = sym (c .before .before .clears-from-pci .ensures) ∙ c .before .if1 .taken in
+    simp on (c .empty .ensures)
+
+returns-2 : tie.Need-returns-2
+returns-2 c =
+    let here = c .before .if2 .taken in
+    let space : isFull (held (c .before .before .before .before .before .args .f)) ≡ false = rw here at (c .before .before .before .before .before .pre) in
+    rw here (simp (c .pushed .ensures, space))
+
+returns-3 : tie.Need-returns-3
+returns-3 c =
+    let s = c .before .before .before .before .before .before .before .before .args .s in
+    let here = c .before .if3 .taken in
+    let kind = eqb-true (s .kind) 1 (and-left (eqb (s .kind) 1) (eqb (s .offset) 0x20) here) in
+    let port = eqb-true (s .offset) 0x20 (and-right (eqb (s .kind) 1) (eqb (s .offset) 0x20) here) in
+    let space : isFull (held (c .before .before .before .before .before .before .before .before .args .f)) ≡ false = rw (kind, port) at (c .before .before .before .before .before .before .before .before .pre) in
+    rw (kind, port) (simp (c .pushed2 .ensures, space))
+
+returns-4 : tie.Need-returns-4
+returns-4 c =
+    let s = c .before .before .before .before .before .before .before .before .before .before .args .s in
+    let here = c .before .if4 .taken in
+    let kind = eqb-true (s .kind) 2 (and-left (eqb (s .kind) 2) (eqb (s .offset) 0x20) here) in
+    let port = eqb-true (s .offset) 0x20 (and-right (eqb (s .kind) 2) (eqb (s .offset) 0x20) here) in
+    rw (kind, port) (c .popped .ensures)
+
+returns-5 : tie.Need-returns-5
+returns-5 c =
+    let s = c .before .before .before .before .before .before .before .before .before .args .s in
+    let k = named (s .kind) in
+    let kept : clearsFifo pci (accessOf s) ≡ false = sym (c .before .before .before .before .before .before .before .before .clears-from-pci .ensures) ∙ c .before .before .before .before .before .before .before .if1 .left in
+    let none = ne-eqb (s .kind) 5 (c .before .before .before .before .before .if2 .left) in
+    fifo-same pci (accessOf s) (c .before .before .before .before .before .before .before .before .before .args .word) (held (c .before .before .before .before .before .before .before .before .before .args .f)) kept (k .readCycle ∙ none)
+    ((λ i. k .pciWrite i && eqb (s .offset) 0x20) ∙ c .before .before .if3 .left)
+    ((λ i. k .addonRead i && eqb (s .offset) 0x20) ∙ c .if4 .left)
+
+pub from-pci-fifo-spec : {M : Type 1} → statement M
+from-pci-fifo-spec = tie.close (tie.spec (λ c κs. search needs) (λ c κs. search needs) returns (λ c κs. search needs) returns-2 (λ c κs. search needs) returns-3 (λ c κs. search needs) returns-4 returns-5)
