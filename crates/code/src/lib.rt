@@ -11,7 +11,9 @@ ghost use Rattle.controller.specs.Controller.{laneOf, stateOf};
 use controller::Controller;
 use controller::Lane;
 use fifo::WordFill;
+use machine::ALL_ENABLES;
 use machine::Step;
+use machine::WORD_BYTES;
 use machine::codes;
 use machine::kinds;
 use machine::offsets;
@@ -21,15 +23,15 @@ const COUNT_MAX: u32 = 0x03FF_FFFF;
 
 const WINDOW_MAX: usize = 16384;
 
-// 1, of a lane.
+// Code 1, of a lane.
 fn is_lane_out_of_form(l: Lane) -> bool
     ensures { λ r. ⌜ r ≡ anyOf (laneFaults (laneOf l)) ⌝ }
 {
-    (fifo::DEPTH < fifo::fill(l.fifo).0) | (l.address % 4 != 0) | (COUNT_MAX < l.count.0)
+    (fifo::DEPTH < fifo::fill(l.fifo).0) | (l.address % WORD_BYTES != 0) | (COUNT_MAX < l.count.0)
 }
 
-// 1.
-pub fn is_out_of_form(c: Controller) -> bool
+// Code 1, state out of form.
+fn is_out_of_form(c: Controller) -> bool
     ensures { λ r. ⌜ r ≡ isOutOfForm (stateOf c) ⌝ }
 {
     let i = word::is_only(intcsr::KEPT | intcsr::EVENTS, c.intcsr);
@@ -37,17 +39,17 @@ pub fn is_out_of_form(c: Controller) -> bool
     is_lane_out_of_form(c.from_pci) | is_lane_out_of_form(c.from_addon) | !i | !m
 }
 
-// 2.
-pub fn is_window_out_of_form(start: u32, words: usize) -> bool
+// Code 2, window out of form.
+fn is_window_out_of_form(start: u32, words: usize) -> bool
     ensures { λ r. ⌜ r ≡ isWindowOutOfForm start words ⌝ }
 {
-    (start % 4 != 0) | (WINDOW_MAX < words)
+    (start % WORD_BYTES != 0) | (WINDOW_MAX < words)
 }
 
 fn is_in_pci_table(offset: u32) -> bool
     ensures { λ r. ⌜ r ≡ inTable pci offset ⌝ }
 {
-    (offset < offsets::END) & (offset % 4 == 0)
+    (offset < offsets::END) & (offset % WORD_BYTES == 0)
 }
 
 fn is_in_addon_table(offset: u32) -> bool
@@ -56,8 +58,8 @@ fn is_in_addon_table(offset: u32) -> bool
     mailboxes::is_mailbox(offset) | (offset == offsets::FIFO_PORT) | (offset == offsets::STATUS)
 }
 
-// 4.
-pub fn is_unknown_offset(s: Step) -> bool
+// Code 4, unknown offset.
+fn is_unknown_offset(s: Step) -> bool
     ensures { λ r. ⌜ r ≡ isUnknownOffset (accessOf s) ⌝ }
 {
     let pci = (s.kind == kinds::PCI_READ) | (s.kind == kinds::PCI_WRITE);
@@ -72,18 +74,18 @@ fn is_access(kind: u32) -> bool
     kind < kinds::WRITE_CYCLE
 }
 
-// 5.
-pub fn has_bad_enables(s: Step) -> bool
+// Code 5, bad enables.
+fn has_bad_enables(s: Step) -> bool
     ensures { λ r. ⌜ r ≡ hasBadEnables (accessOf s) ⌝ }
 {
-    is_access(s.kind) & (15 < s.enables)
+    is_access(s.kind) & (ALL_ENABLES < s.enables)
 }
 
-// 6.
-pub fn is_part_fifo_access(s: Step) -> bool
+// Code 6, part FIFO access.
+fn is_part_fifo_access(s: Step) -> bool
     ensures { λ r. ⌜ r ≡ isPartFifoAccess (accessOf s) ⌝ }
 {
-    is_access(s.kind) & (s.offset == offsets::FIFO_PORT) & (s.enables != 15)
+    is_access(s.kind) & (s.offset == offsets::FIFO_PORT) & (s.enables != ALL_ENABLES)
 }
 
 fn is_read_only_to_pci(offset: u32) -> bool
@@ -98,16 +100,16 @@ fn is_read_only_to_addon(offset: u32) -> bool
     mailboxes::is_mailbox(offset) & (offset < offsets::INCOMING) | (offset == offsets::STATUS)
 }
 
-// 7.
-pub fn is_read_only_write(s: Step) -> bool
+// Code 7, read-only register.
+fn is_read_only_write(s: Step) -> bool
     ensures { λ r. ⌜ r ≡ isReadOnlyWrite (accessOf s) ⌝ }
 {
     (s.kind == kinds::PCI_WRITE) & is_read_only_to_pci(s.offset)
         | (s.kind == kinds::ADDON_WRITE) & is_read_only_to_addon(s.offset)
 }
 
-// 8.
-pub fn is_full_or_empty(c: Controller, s: Step) -> bool
+// Code 8, FIFO full or empty.
+fn is_full_or_empty(c: Controller, s: Step) -> bool
     ensures { λ r. ⌜ r ≡ isFullOrEmpty (stateOf c) (accessOf s) ⌝ }
 {
     let port = s.offset == offsets::FIFO_PORT;
@@ -119,8 +121,8 @@ pub fn is_full_or_empty(c: Controller, s: Step) -> bool
             | (s.kind == kinds::PCI_READ) & port & fifo::is_empty(from_addon))
 }
 
-// 9.
-pub fn is_transfer_off(c: Controller, s: Step) -> bool
+// Code 9, transfer off.
+fn is_transfer_off(c: Controller, s: Step) -> bool
     ensures { λ r. ⌜ r ≡ isTransferOff (stateOf c) (accessOf s) ⌝ }
 {
     let read = word::bit(c.mcsr, mcsr::READ_ENABLE);
@@ -128,16 +130,16 @@ pub fn is_transfer_off(c: Controller, s: Step) -> bool
     (s.kind == kinds::READ_CYCLE) & !read | (s.kind == kinds::WRITE_CYCLE) & !write
 }
 
-// 10.
-pub fn is_count_zero(c: Controller, s: Step) -> bool
+// Code 10, count is zero.
+fn is_count_zero(c: Controller, s: Step) -> bool
     ensures { λ r. ⌜ r ≡ isCountZero (stateOf c) (accessOf s) ⌝ }
 {
     (s.kind == kinds::READ_CYCLE) & (c.from_pci.count.0 == 0)
         | (s.kind == kinds::WRITE_CYCLE) & (c.from_addon.count.0 == 0)
 }
 
-// 11.
-pub fn is_abort_standing(c: Controller, s: Step) -> bool
+// Code 11, abort stands.
+fn is_abort_standing(c: Controller, s: Step) -> bool
     ensures { λ r. ⌜ r ≡ isAbortStanding (stateOf c) (accessOf s) ⌝ }
 {
     let stands = intcsr::is_abort_in(c.intcsr);
@@ -151,22 +153,24 @@ fn needed(four: bool) -> WordFill
     if four { WordFill(4) } else { WordFill(1) }
 }
 
-pub fn is_read_ready(c: Controller) -> bool
+// Whether there is room for what a read cycle lets in.
+fn is_read_ready(c: Controller) -> bool
     ensures { λ r. ⌜ r ≡ isReady pci (stateOf c) ⌝ }
 {
     let need = needed(word::bit(c.mcsr, mcsr::READ_FOUR));
     need.0 <= fifo::room(c.from_pci.fifo).0
 }
 
-pub fn is_write_ready(c: Controller) -> bool
+// Whether there are words for a write cycle to take.
+fn is_write_ready(c: Controller) -> bool
     ensures { λ r. ⌜ r ≡ isReady addon (stateOf c) ⌝ }
 {
     let need = needed(word::bit(c.mcsr, mcsr::WRITE_FOUR));
     need.0 <= fifo::fill(c.from_addon.fifo).0
 }
 
-// 12.
-pub fn is_not_ready(c: Controller, s: Step) -> bool
+// Code 12, FIFO not ready.
+fn is_not_ready(c: Controller, s: Step) -> bool
     ensures { λ r. ⌜ r ≡ isNotReady (stateOf c) (accessOf s) ⌝ }
 {
     (s.kind == kinds::READ_CYCLE) & !is_read_ready(c)
@@ -174,14 +178,14 @@ pub fn is_not_ready(c: Controller, s: Step) -> bool
 }
 
 // Whether an address belongs to a memory of so many words.
-pub fn is_inside(start: u32, words: usize, address: u32) -> bool
+fn is_inside(start: u32, words: usize, address: u32) -> bool
     ensures { λ r. ⌜ r ≡ inside start words address ⌝ }
 {
     (transfers::place(start, address) as usize) < words
 }
 
-// 13.
-pub fn is_no_memory(c: Controller, start: u32, words: usize, s: Step) -> bool
+// Code 13, no memory there.
+fn is_no_memory(c: Controller, start: u32, words: usize, s: Step) -> bool
     ensures { λ r. ⌜ r ≡ isNoMemory (stateOf c) start words (accessOf s) ⌝ }
 {
     let read = is_inside(start, words, c.from_pci.address);

@@ -101,10 +101,3 @@ pub fn popped(f: Fifo) -> Fifo
     next.fill.0 = left;
     next
 }
-
-// The FIFO, emptied if on.
-pub fn emptied(f: Fifo, on: bool) -> Fifo
-    ensures { λ r. ⌜ held r ≡ cond on [] (held f) ⌝ }
-{
-    if on { empty() } else { f }
-}

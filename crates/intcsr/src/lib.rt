@@ -16,6 +16,8 @@ pub const EVENTS: u32 = 0x003F_0000;
 const OUTGOING_ENABLE: u32 = 4;
 
 const INCOMING_ENABLE: u32 = 12;
+// Where the choice of the incoming byte begins.
+const INCOMING_CHOICE: u32 = 8;
 
 const WRITE_COUNT_ENABLE: u32 = 14;
 
@@ -36,24 +38,28 @@ const TARGET_ABORT: u32 = 21;
 const LINE: u32 = 23;
 
 // After a write: the kept bits are stored, a one written to a flag clears it.
-pub fn written(old: u32, new: u32, enables: u32) -> u32
+fn written(old: u32, new: u32, enables: u32) -> u32
     ensures { λ r. ⌜ r ≡ intcsrWritten old new enables ⌝ }
 {
     word::written(KEPT, old, new, enables) | word::cleared(old & EVENTS, word::shown(new, enables))
 }
 
 // The Add-On reads the chosen outgoing byte, and the event is enabled.
-pub fn outgoing_event(i: u32, s: Step) -> bool
+fn outgoing_event(i: u32, s: Step) -> bool
     ensures { λ r. ⌜ r ≡ outgoingEvent i (accessOf s) ⌝ }
 {
-    word::bit(i, OUTGOING_ENABLE) & mailboxes::takes_byte(i % 16, s)
+    word::bit(i, OUTGOING_ENABLE) & mailboxes::takes_byte(i % mailboxes::HALF, s)
 }
 
 // The Add-On writes the chosen incoming byte, and the event is enabled.
-pub fn incoming_event(i: u32, s: Step) -> bool
+fn incoming_event(i: u32, s: Step) -> bool
     ensures { λ r. ⌜ r ≡ incomingEvent i (accessOf s) ⌝ }
 {
-    word::bit(i, INCOMING_ENABLE) & mailboxes::fills_byte(16 + (i >> 8) % 16, s)
+    word::bit(i, INCOMING_ENABLE)
+        & mailboxes::fills_byte(
+            mailboxes::HALF + (i >> INCOMING_CHOICE) % mailboxes::HALF,
+            s,
+        )
 }
 
 // INTCSR after a done step.

@@ -16,8 +16,4 @@ pub mod Step
 pub mod Event
 pub mod Run
 pub mod Examples
-pub mod Account
-pub mod Theorems
-pub mod Worthless
-pub mod Readings
 pub mod Neighbours

@@ -4,6 +4,11 @@ pub mod codes;
 pub mod kinds;
 pub mod offsets;
 
+// The bytes of a word, and the enables of all of them.
+pub const WORD_BYTES: u32 = 4;
+
+pub const ALL_ENABLES: u32 = 15;
+
 // A step: its kind, an offset, byte enables and 32-bit data. Any four numbers make a step.
 pub struct Step {
     pub kind: u32,

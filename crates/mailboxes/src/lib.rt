@@ -6,14 +6,20 @@ ghost use lib.ListN.{getD};
 ghost use Rattle.machine.specs.Offsets.{isMailbox, mailbox, writer, reader};
 ghost use Rattle.machine.specs.Mailboxes.{marksAt, fills, takes, fillsByte, takesByte, marksAfter, mailAfter};
 use machine::Step;
+use machine::WORD_BYTES;
 use machine::kinds;
 use machine::offsets;
+
+// The outgoing bytes are the lower sixteen of the status, the incoming ones the upper.
+pub const HALF: u32 = 16;
+// Enables are numbers below this.
+const ENABLES: u32 = 16;
 
 // Whether an offset is that of a mailbox.
 pub fn is_mailbox(offset: u32) -> bool
     ensures { λ r. ⌜ r ≡ isMailbox offset ⌝ }
 {
-    (offset < offsets::FIFO_PORT) & (offset % 4 == 0)
+    (offset < offsets::FIFO_PORT) & (offset % WORD_BYTES == 0)
 }
 
 // Whether the step is a write by the owner of the mailbox at its offset: PCI of an outgoing one, the Add-On of an incoming one.
@@ -37,14 +43,14 @@ fn is_other_read(s: Step) -> bool
 }
 
 // A write by the owner.
-pub fn fills(s: Step) -> bool
+fn fills(s: Step) -> bool
     ensures { λ r. ⌜ r ≡ fills (accessOf s) ⌝ }
 {
     is_owner_write(s) & is_mailbox(s.offset)
 }
 
 // A read by the other side.
-pub fn takes(s: Step) -> bool
+fn takes(s: Step) -> bool
     ensures { λ r. ⌜ r ≡ takes (accessOf s) ⌝ }
 {
     is_other_read(s) & is_mailbox(s.offset)
@@ -55,7 +61,7 @@ fn marks_at(offset: u32, enables: u32) -> u32
     requires { ⌜ isMailbox offset ≡ true ⌝ }
     ensures { λ r. ⌜ r ≡ marksAt offset enables ⌝ }
 {
-    (enables % 16) << offset
+    (enables % ENABLES) << offset
 }
 
 // The owner's write to byte k, that byte enabled.
@@ -101,7 +107,7 @@ pub fn mail_after(s: Step, mail: [u32; 8]) -> [u32; 8]
     ensures { λ r. ⌜ r ≡ mailAfter (accessOf s) mail ⌝ }
 {
     if fills(s) {
-        let at = (s.offset / 4) as usize;
+        let at = (s.offset / WORD_BYTES) as usize;
         let mut next = mail;
         next[at] = word::merged(mail[at], s.value, s.enables);
         return next;
@@ -114,7 +120,7 @@ pub fn mail_word(mail: [u32; 8], offset: u32) -> u32
     ensures { λ r. ⌜ r ≡ getD mail (mailbox offset) 0 ⌝ }
 {
     if offset < offsets::FIFO_PORT {
-        let at = (offset / 4) as usize;
+        let at = (offset / WORD_BYTES) as usize;
         return mail[at];
     }
     0

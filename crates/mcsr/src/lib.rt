@@ -50,18 +50,21 @@ fn commands(k: u32, s: Step) -> bool
         & word::bit(s.value, k)
 }
 
+// 27 marks every mailbox byte empty.
 pub fn clears_marks(s: Step) -> bool
     ensures { λ r. ⌜ r ≡ clearsMarks (accessOf s) ⌝ }
 {
     commands(CLEAR_MARKS, s)
 }
 
+// 25 empties the FIFO from PCI.
 pub fn clears_from_pci(s: Step) -> bool
     ensures { λ r. ⌜ r ≡ clearsFifo pci (accessOf s) ⌝ }
 {
     commands(CLEAR_FROM_PCI, s)
 }
 
+// 26 empties the FIFO from the Add-On.
 pub fn clears_from_addon(s: Step) -> bool
     ensures { λ r. ⌜ r ≡ clearsFifo addon (accessOf s) ⌝ }
 {
@@ -85,14 +88,14 @@ fn flag(on: bool, one: u32) -> u32
 }
 
 // The status of the FIFO from PCI.
-pub fn from_pci_status(f: Fifo) -> u32
+fn from_pci_status(f: Fifo) -> u32
     ensures { λ r. ⌜ r ≡ fifoStatus pci (held f) ⌝ }
 {
     flag(fifo::is_empty(f), EMPTY) | flag(4 <= fifo::room(f).0, FOUR) | flag(fifo::is_full(f), FULL)
 }
 
 // The status of the FIFO from the Add-On.
-pub fn from_addon_status(f: Fifo) -> u32
+fn from_addon_status(f: Fifo) -> u32
     ensures { λ r. ⌜ r ≡ fifoStatus addon (held f) ⌝ }
 {
     flag(fifo::is_empty(f), EMPTY) | flag(4 <= fifo::fill(f).0, FOUR) | flag(fifo::is_full(f), FULL)

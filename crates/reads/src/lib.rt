@@ -9,7 +9,7 @@ use machine::Step;
 use machine::offsets;
 
 // The register at an offset, but for the FIFO port.
-pub fn register(c: Controller, offset: u32) -> u32
+fn register(c: Controller, offset: u32) -> u32
     ensures { λ r. ⌜ r ≡ register (stateOf c) offset ⌝ }
 {
     if mailboxes::is_mailbox(offset) {

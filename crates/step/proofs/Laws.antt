@@ -15,9 +15,9 @@ use Rattle.machine.specs.Fifos.{isFull, cycleFeeds, cycleTakes, fifoAfter}
 use Rattle.machine.specs.Code.{codeOf, tests}
 use Rattle.machine.specs.Step.{nothing, doneReply}
 use Rattle.machine.specs.declared.Step.{Step}
-use Rattle.machine.proofs.Numbers.{named}
-use Rattle.machine.proofs.Tests.{none-applies}
-use Rattle.machine.proofs.Form.{room-to-write, room-to-read}
+use Rattle.promises.proofs.Numbers.{named}
+use Rattle.promises.proofs.Tests.{none-applies}
+use Rattle.promises.proofs.Form.{room-to-write, room-to-read}
 
 -- a FIFO that a step neither clears, feeds nor empties
 pub fifo-same : (side : Side) (x : Access) (word : ℕ) (ws : List ℕ) → clearsFifo side x ≡ false → cycleFeeds side x ≡ false → writes side fifoPort x ≡ false

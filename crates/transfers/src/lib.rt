@@ -8,7 +8,9 @@ ghost use lib.Dec.{eqb};
 ghost use Rattle.machine.specs.Words.{written};
 ghost use Rattle.machine.specs.Cycles.{moved, lowEnables, addressKept, countKept, nextAddress, countLeft, runsOut, addressAfter, countAfter};
 use controller::ByteCount;
+use machine::ALL_ENABLES;
 use machine::Step;
+use machine::WORD_BYTES;
 use machine::kinds;
 use machine::offsets;
 
@@ -18,11 +20,15 @@ const ADDRESS_KEPT: u32 = 0xFFFF_FFFC;
 const COUNT_KEPT: u32 = 0x03FF_FFFF;
 
 // The bytes that a cycle moves: the lesser of 4 and the count.
-pub fn moved(count: ByteCount) -> ByteCount
+fn moved(count: ByteCount) -> ByteCount
     ensures { λ r. ⌜ r .0 ≡ moved (count .0) ⌝ }
 {
     let n = count.0;
-    if n < 4 { ByteCount(n) } else { ByteCount(4) }
+    if n < WORD_BYTES {
+        ByteCount(n)
+    } else {
+        ByteCount(WORD_BYTES)
+    }
 }
 
 // The enables of those bytes.
@@ -42,11 +48,11 @@ pub fn low_enables(count: ByteCount) -> u32
     if n == 3 {
         return 7;
     }
-    15
+    ALL_ENABLES
 }
 
 // The count after a cycle.
-pub fn count_left(count: ByteCount) -> ByteCount
+fn count_left(count: ByteCount) -> ByteCount
     ensures { λ r. ⌜ r .0 ≡ countLeft (count .0) ⌝ }
 {
     let n = moved(count).0;
@@ -64,14 +70,14 @@ pub fn runs_out(count: ByteCount) -> bool
 pub fn place(start: u32, address: u32) -> u32
     ensures { λ r. ⌜ r ≡ placeOf start address ⌝ }
 {
-    std::num::wrapping_sub_u32(address, start) / 4
+    std::num::wrapping_sub_u32(address, start) / WORD_BYTES
 }
 
 // The address after FFFFFFFC is 00000000.
-pub fn next_address(address: u32) -> u32
+fn next_address(address: u32) -> u32
     ensures { λ r. ⌜ r ≡ nextAddress address ⌝ }
 {
-    std::num::wrapping_add_u32(address, 4)
+    std::num::wrapping_add_u32(address, WORD_BYTES)
 }
 
 // An address register at an offset after a done step, the number of its cycle given.

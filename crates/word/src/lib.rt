@@ -19,7 +19,7 @@ fn byte_mask(enables: u32, i: u32, ones: u32) -> u32
 }
 
 // Ones at the enabled bytes.
-pub fn mask(enables: u32) -> u32
+fn mask(enables: u32) -> u32
     ensures { λ r. ⌜ r ≡ mask enables ⌝ }
 {
     byte_mask(enables, 0, 0x0000_00FF)

@@ -1,5 +1,5 @@
 use Rattle.machine.specs.Code.{codeOf}
-use Rattle.machine.proofs.Numbers.{named}
+use Rattle.promises.proofs.Numbers.{named}
 use borrow.Author.Needs.{needs}
 use Rattle.code.proofs.code.Statement.{statement}
 use Rattle.code.proofs.code.Tie as tie

@@ -1,6 +1,6 @@
 use Rattle.machine.specs.Code.{isAbortStanding}
 use Rattle.controller.specs.Controller.{stateOf}
-use Rattle.machine.proofs.Numbers.{named}
+use Rattle.promises.proofs.Numbers.{named}
 use borrow.Author.Needs.{needs}
 use Rattle.code.proofs.is_abort_standing.Statement.{statement}
 use Rattle.code.proofs.is_abort_standing.Tie as tie

@@ -1,6 +1,6 @@
 use Rattle.machine.specs.Code.{isCountZero}
 use Rattle.controller.specs.Controller.{stateOf, laneOf}
-use Rattle.machine.proofs.Numbers.{named}
+use Rattle.promises.proofs.Numbers.{named}
 use Rattle.code.proofs.is_count_zero.Statement.{statement}
 use Rattle.code.proofs.is_count_zero.Tie as tie
 

@@ -1,6 +1,6 @@
 use Rattle.machine.specs.Code.{isNoMemory}
 use Rattle.controller.specs.Controller.{stateOf, laneOf}
-use Rattle.machine.proofs.Numbers.{named}
+use Rattle.promises.proofs.Numbers.{named}
 use borrow.Author.Needs.{needs}
 use Rattle.code.proofs.is_no_memory.Statement.{statement}
 use Rattle.code.proofs.is_no_memory.Tie as tie

@@ -1,5 +1,5 @@
 use Rattle.machine.specs.Code.{isNotReady}
-use Rattle.machine.proofs.Numbers.{named}
+use Rattle.promises.proofs.Numbers.{named}
 use borrow.Author.Needs.{needs}
 use Rattle.code.proofs.is_not_ready.Statement.{statement}
 use Rattle.code.proofs.is_not_ready.Tie as tie

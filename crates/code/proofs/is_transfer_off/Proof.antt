@@ -1,6 +1,6 @@
 use Rattle.machine.specs.Code.{isTransferOff}
 use Rattle.controller.specs.Controller.{stateOf}
-use Rattle.machine.proofs.Numbers.{named}
+use Rattle.promises.proofs.Numbers.{named}
 use borrow.Author.Needs.{needs}
 use Rattle.code.proofs.is_transfer_off.Statement.{statement}
 use Rattle.code.proofs.is_transfer_off.Tie as tie

@@ -1,4 +1,4 @@
-use Rattle.machine.proofs.Numbers.{named}
+use Rattle.promises.proofs.Numbers.{named}
 use borrow.Author.Needs.{needs}
 use Rattle.mcsr.proofs.commands.Statement.{statement}
 use Rattle.mcsr.proofs.commands.Tie as tie

@@ -1,5 +1,5 @@
 use Rattle.machine.specs.Mcsr.{mcsrAfter}
-use Rattle.machine.proofs.Numbers.{named}
+use Rattle.promises.proofs.Numbers.{named}
 use borrow.Author.Needs.{needs}
 use Rattle.mcsr.proofs.mcsr_after.Statement.{statement}
 use Rattle.mcsr.proofs.mcsr_after.Tie as tie

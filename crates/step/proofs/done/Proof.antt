@@ -2,7 +2,7 @@ use native.Mathlib.Omega.{arith}
 use borrow.Author.Tests.{ne-eqb}
 use Rattle.machine.specs.Sides.{pci, addon}
 use Rattle.machine.specs.Step.{respond, replyOf, doneReply, stateAfter, memoryAfter}
-use Rattle.machine.proofs.Numbers.{named}
+use Rattle.promises.proofs.Numbers.{named}
 use Rattle.step.proofs.Laws.{room, known-kind}
 use borrow.Author.Needs.{needs}
 use Rattle.step.proofs.done.Statement.{statement}

@@ -6,8 +6,8 @@ use Rattle.machine.specs.Sides.{pci}
 use Rattle.machine.specs.Access.{accessOf}
 use Rattle.machine.specs.Commands.{clearsFifo}
 use Rattle.machine.specs.Fifos.{isFull}
-use Rattle.machine.proofs.Tests.{and-left, and-right}
-use Rattle.machine.proofs.Numbers.{named}
+use Rattle.promises.proofs.Tests.{and-left, and-right}
+use Rattle.promises.proofs.Numbers.{named}
 use Rattle.fifo.specs.Held.{held}
 use Rattle.step.proofs.Laws.{fifo-same}
 use borrow.Author.Needs.{needs}

@@ -2,7 +2,7 @@ use Rattle.machine.specs.Sides.{pci, addon}
 use Rattle.machine.specs.Cycles.{cycleWord}
 use Rattle.machine.specs.Step.{respond, replyOf, doneReply, stateAfter, memoryAfter}
 use Rattle.controller.specs.Controller.{stateOf, laneOf}
-use Rattle.machine.proofs.Steps.{place-inside}
+use Rattle.promises.proofs.Steps.{place-inside}
 use Rattle.step.proofs.Laws.{room}
 use borrow.Author.Needs.{needs}
 use Rattle.step.proofs.write_cycle.Statement.{statement}

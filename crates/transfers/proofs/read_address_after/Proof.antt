@@ -1,5 +1,5 @@
 use Rattle.machine.specs.Cycles.{addressAfter}
-use Rattle.machine.proofs.Numbers.{named}
+use Rattle.promises.proofs.Numbers.{named}
 use borrow.Author.Needs.{needs}
 use Rattle.transfers.proofs.read_address_after.Statement.{statement}
 use Rattle.transfers.proofs.read_address_after.Tie as tie

@@ -5,18 +5,18 @@ use mathlib.Core.Bool.{Bool, true, false, cond, not, _&&_, _||_, and-true, and-f
 use native.Mathlib.Omega.{arith}
 use lib.Dec.{eqb, leb}
 use borrow.Author.Tests.{eq-eqb, ne-eqb, lt-ltb, le-ltb, lt-leb, le-leb, leb-true, leb-false}
 use Rattle.machine.specs.Words.{bit}
 use Rattle.machine.specs.Sides.{pci, addon, host, card}
 use Rattle.machine.specs.State.{State}
 use Rattle.machine.specs.Access.{Access, Kind, kindOf, reading, writing, cycle, chipReset, unknown, isReadBy, isWriteBy}
 use Rattle.machine.specs.Cycles.{runsOut}
 use Rattle.machine.specs.Intcsr.{intcsrKept, intcsrEvents, intcsrWritten, outgoingEvent, incomingEvent, chosenOutgoing, chosenIncoming, intcsrAfter}
 use Rattle.machine.specs.Step.{stepOf, respond, answered, replyOf, stateAfter, doneState}
-use Rattle.machine.proofs.Numbers.{named}
-use Rattle.machine.specs.Readings.{EventRule, acknowledges, sets}
-use Rattle.machine.proofs.Bits.{bit-raised}
-use Rattle.machine.proofs.MailAccount.{at-byte}
-use Rattle.machine.proofs.Readings.{kept-bits, intcsr-written-bits}
+use Rattle.promises.proofs.Numbers.{named}
+use Rattle.promises.specs.Readings.{EventRule, acknowledges, sets}
+use Rattle.promises.proofs.Bits.{bit-raised}
+use Rattle.promises.proofs.MailAccount.{at-byte}
+use Rattle.promises.proofs.Readings.{kept-bits, intcsr-written-bits}
 
 module _ (k : ℕ) (low : 16 ≤ k) (high : k ≤ 21) where
   not-kept : bit intcsrKept k ≡ false

@@ -5,24 +5,24 @@ use mathlib.Core.Bool.{Bool, true, false, cond, not, _&&_, _||_, true≢false}
 use mathlib.Core.List.{List, [], _∷_, _++_, append-assoc, append-nil}
 use lib.Dec.{eqb, leb, eqb·suc-zero}
 use lib.ListN.{length, drop}
 use Rattle.machine.specs.Words.{bit}
 use Rattle.machine.specs.Sides.{Side, pci, addon, other, host, card}
 use Rattle.machine.specs.State.{State, held, resetState}
 use Rattle.machine.specs.Access.{Access, accessOf, Kind, reading, writing, cycle, chipReset, unknown, isReset, cycles, reads, writes}
 use Rattle.machine.specs.Offsets.{fifoPort}
 use Rattle.machine.specs.Commands.{clearsFifo}
 use Rattle.machine.specs.Fifos.{letIn, handedOut, fifoAfter, isEmpty, isFull, front, followed}
 use Rattle.machine.specs.Cycles.{isReady, cycleWord}
 use Rattle.machine.specs.Code.{codeOf, tests, isPortStuck, isFullOrEmpty, isNotReady}
 use Rattle.machine.specs.Step.{replyOf, doneReply, readValue, doneState, stateAfter, abortedState, stepOf, respond, answered}
 use Rattle.machine.specs.Event.{Event}
 use Rattle.machine.specs.Run.{run}
-use Rattle.machine.specs.Account.{isDone, Tally, fresh, tallyAfter, talliedFrom}
-use Rattle.machine.specs.Theorems.{FifoAccount}
+use Rattle.promises.specs.Account.{isDone, Tally, fresh, tallyAfter, talliedFrom}
+use Rattle.promises.specs.Theorems.{FifoAccount}
 use Rattle.machine.specs.declared.Step.{Step}
-use Rattle.machine.proofs.Tests.{none-applies, neither, or-right, and-at}
-use Rattle.machine.proofs.Numbers.{in-is, out-is, clears-is}
-use Rattle.machine.proofs.After.{part-refused, part-done}
+use Rattle.promises.proofs.Tests.{none-applies, neither, or-right, and-at}
+use Rattle.promises.proofs.Numbers.{in-is, out-is, clears-is}
+use Rattle.promises.proofs.After.{part-refused, part-done}
 
 -- ---- one step
 

@@ -7,21 +7,21 @@ use lib.Dec.{eqb}
 use lib.ListN.{length, getD, set}
 use lib.Seq.{getD-set-same}
 use borrow.Author.Tests.{eqb-true, ltb-true, not-false}
 use Rattle.machine.specs.Words.{bit, merged}
 use Rattle.machine.specs.Sides.{Side, addon}
 use Rattle.machine.specs.State.{State, lane}
 use Rattle.machine.specs.Access.{Access, accessOf, kindOf, cycles}
 use Rattle.machine.specs.Fifos.{front}
 use Rattle.machine.specs.Window.{placeOf, inside}
 use Rattle.machine.specs.Cycles.{lowEnables, stored}
 use Rattle.machine.specs.Code.{codeOf, tests, isNoMemory}
 use Rattle.machine.specs.Step.{register, readValue, doneReply, replyOf, answered, memoryAfter, respond, stepOf}
-use Rattle.machine.specs.Readings.{ReadAnswers, Stores, MemoryRule}
+use Rattle.promises.specs.Readings.{ReadAnswers, Stores, MemoryRule}
 use Rattle.machine.specs.declared.Step.{Step}
-use Rattle.machine.proofs.Tests.{none-applies, neither, and-left, and-right, and-at}
-use Rattle.machine.proofs.Numbers.{named}
-use Rattle.machine.proofs.Bytes.{bit-shown, bit-merged}
-use Rattle.machine.proofs.Readings.{low-enables}
+use Rattle.promises.proofs.Tests.{none-applies, neither, and-left, and-right, and-at}
+use Rattle.promises.proofs.Numbers.{named}
+use Rattle.promises.proofs.Bytes.{bit-shown, bit-merged}
+use Rattle.promises.proofs.Readings.{low-enables}
 
 -- ---- reads
 

@@ -7,24 +7,24 @@ use native.Mathlib.Omega.{arith}
 use lib.Dec.{eqb, ltb, eqb·suc-zero}
 use lib.ListN.{length}
 use borrow.Author.Tests.{lt-ltb, le-ltb, eq-eqb, eqb-true, ltb-true, ltb-false}
 use Rattle.machine.specs.Words.{bit}
 use Rattle.machine.specs.Sides.{host, card}
 use Rattle.machine.specs.State.{State, resetState}
 use Rattle.machine.specs.Access.{Access, accessOf, isReadBy, isWriteBy, isReset}
 use Rattle.machine.specs.Offsets.{isMailbox}
 use Rattle.machine.specs.Commands.{clearsMarks}
 use Rattle.machine.specs.Mailboxes.{marksAt, fillsByte, takesByte}
 use Rattle.machine.specs.Code.{codeOf}
 use Rattle.machine.specs.Step.{replyOf, stateAfter, stepOf, respond, answered, doneState, abortedState}
 use Rattle.machine.specs.Event.{Event}
 use Rattle.machine.specs.Run.{run}
-use Rattle.machine.specs.Account.{Touch, write, read, clear, none, isDone, toByte, ownerWrites, otherReads, clearsByte, touch, later, latest, isWrite}
-use Rattle.machine.specs.Theorems.{MailAccount}
+use Rattle.promises.specs.Account.{Touch, write, read, clear, none, isDone, toByte, ownerWrites, otherReads, clearsByte, touch, later, latest, isWrite}
+use Rattle.promises.specs.Theorems.{MailAccount}
 use Rattle.machine.specs.declared.Step.{Step}
-use Rattle.machine.proofs.Numbers.{named, reset-is, commands-is}
-use Rattle.machine.proofs.After.{part-refused, part-done}
-use Rattle.machine.proofs.Bits.{bit-zero}
-use Rattle.machine.proofs.Marks.{bit-marks, mark-after}
+use Rattle.promises.proofs.Numbers.{named, reset-is, commands-is}
+use Rattle.promises.proofs.After.{part-refused, part-done}
+use Rattle.promises.proofs.Bits.{bit-zero}
+use Rattle.promises.proofs.Marks.{bit-marks, mark-after}
 
 -- ---- the machine's tests on a byte are the account's
 

@@ -4,15 +4,15 @@ use mathlib.Core.Path.{_≡_, refl, ap}
 use mathlib.Core.Bool.{Bool, true, false, _||_}
 use lib.Dec.{eqb}
 use borrow.Author.Tests.{eqb-true}
-use Rattle.machine.proofs.Tests.{and-left, and-right}
+use Rattle.promises.proofs.Tests.{and-left, and-right}
 use mathlib.Core.List.{List, [], _∷_, head-eq-of-cons-eq}
 use native.Mathlib.Omega.{arith}
 use lib.ListN.{getD}
 use Rattle.machine.specs.Sides.{pci, addon}
 use Rattle.machine.specs.State.{resetState}
 use Rattle.machine.specs.Examples.{Seen, ok, pciRead, pciWrite, addonRead, writeCycle, zeros}
-use Rattle.machine.specs.Worthless.{RefusingFails, ConstantFails, StillFails, FirstOnlyFails, ConstantBreaks, StillBreaks}
+use Rattle.promises.specs.Worthless.{RefusingFails, ConstantFails, StillFails, FirstOnlyFails, ConstantBreaks, StillBreaks}
 use Rattle.machine.specs.declared.Answer.{Answer}
 
 -- the answer to step j in row i of a table
 abbrev answerAt : ℕ → ℕ → List Seen → Answer

@@ -7,16 +7,16 @@ use lib.Dec.{eqb, leb}
 use lib.Bits.{bitAnd}
 use lib.ListN.{length}
 use borrow.Author.Tests.{ne-eqb, lt-leb, le-leb, leb-true, leb-false, not-false}
 use Rattle.machine.specs.Words.{bit, shown}
 use Rattle.machine.specs.State.{State}
 use Rattle.machine.specs.Mcsr.{mcsrKept, fifoStatus, mcsrStatus, mcsrRead}
 use Rattle.machine.specs.Cycles.{addressKept, countKept, lowEnables}
 use Rattle.machine.specs.Intcsr.{intcsrKept, intcsrEvents, intcsrHeld, intcsrWritten, lineOf, intcsrRead}
 use Rattle.machine.specs.Code.{isOutOfForm, faults}
-use Rattle.machine.specs.Readings.{ShownBits, MergedBits, WrittenBits, KeptBitsHold, LowEnables, IntcsrWrittenBits, IntcsrReadBits, McsrStatus, McsrReadBits}
-use Rattle.machine.proofs.Tests.{any-none}
-use Rattle.machine.proofs.Bits.{bit-or, bit-and, bit-shl, bit-flag, bit-raised, bit-cleared, bit-ones, Only, is-only}
-use Rattle.machine.proofs.Bytes.{agree, bit-shown, bit-merged, bit-written, shown-lt}
+use Rattle.promises.specs.Readings.{ShownBits, MergedBits, WrittenBits, KeptBitsHold, LowEnables, IntcsrWrittenBits, IntcsrReadBits, McsrStatus, McsrReadBits}
+use Rattle.promises.proofs.Tests.{any-none}
+use Rattle.promises.proofs.Bits.{bit-or, bit-and, bit-shl, bit-flag, bit-raised, bit-cleared, bit-ones, Only, is-only}
+use Rattle.promises.proofs.Bytes.{agree, bit-shown, bit-merged, bit-written, shown-lt}
 
 pub shown-bits : ShownBits
 shown-bits = bit-shown

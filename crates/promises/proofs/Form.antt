@@ -8,26 +8,26 @@ use lib.Dec.{eqb, ltb, eqb·suc-zero}
 use lib.Bits.{bitAnd, and-high, and-le-r}
 use lib.ListN.{length, drop, length-append, length-drop}
 use borrow.Author.Tests.{ltb-false, le-ltb, leb-true, leb-false, eqb-true, eq-eqb, not-false}
 use Rattle.machine.specs.Words.{bit, only, raised, cleared, merged, written}
 use Rattle.machine.specs.Sides.{Side, pci, addon, other, host, card}
 use Rattle.machine.specs.State.{State, lane, held, resetState}
 use Rattle.machine.specs.Access.{Access, accessOf, Kind, reading, writing, cycle, chipReset, unknown, isReset, cycles, reads, writes}
 use Rattle.machine.specs.Offsets.{fifoPort, addressAt, countAt, intcsrAt, mcsrAt}
 use Rattle.machine.specs.Commands.{clearsFifo}
 use Rattle.machine.specs.Fifos.{handedOut, fifoAfter, isEmpty, cycleFeeds, amount, followed}
 use Rattle.machine.specs.Mcsr.{mcsrKept, mcsrAfter}
 use Rattle.machine.specs.Cycles.{needed, isReady, addressKept, countKept, nextAddress, countLeft, runsOut, addressAfter, countAfter, laneAfter}
 use Rattle.machine.specs.Intcsr.{intcsrKept, intcsrEvents, intcsrHeld, intcsrWritten, outgoingEvent, incomingEvent, countBit, intcsrAfter, intcsrAborted}
 use Rattle.machine.specs.Code.{codeOf, tests, faults, laneFaults, anyOf, isOutOfForm, isPortStuck, isFullOrEmpty, isNotReady}
 use Rattle.machine.specs.Step.{doneState, abortedState, stateAfter, stepOf, respond, replyOf, answered}
 use Rattle.machine.specs.Event.{Event}
 use Rattle.machine.specs.Run.{run}
-use Rattle.machine.specs.Account.{Every}
-use Rattle.machine.specs.Theorems.{testOf, FormKept, NeverOutOfForm}
+use Rattle.promises.specs.Account.{Every}
+use Rattle.promises.specs.Theorems.{testOf, FormKept, NeverOutOfForm}
 use Rattle.machine.specs.declared.Step.{Step}
-use Rattle.machine.proofs.Tests.{none-applies, neither, any-none, or-left, and-at}
-use Rattle.machine.proofs.Refused.{lowest-code}
-use Rattle.machine.proofs.Bits.{Only, only-or, only-and, only-and-left, only-raised, is-only, only-is}
+use Rattle.promises.proofs.Tests.{none-applies, neither, any-none, or-left, and-at}
+use Rattle.promises.proofs.Refused.{lowest-code}
+use Rattle.promises.proofs.Bits.{Only, only-or, only-and, only-and-left, only-raised, is-only, only-is}
 
 -- ---- FIFOs: no fill above 8
 

@@ -3,15 +3,15 @@ use Prim.Native.Nat.{ℕ, suc}
 use mathlib.Core.Path.{_≡_}
 use mathlib.Core.Bool.{true}
 use mathlib.Core.List.{List, [], _∷_, map}
 use Rattle.machine.specs.State.{State, resetState}
 use Rattle.machine.specs.Step.{stepOf}
 use Rattle.machine.specs.Event.{Event}
 use Rattle.machine.specs.Run.{Rule, Run, runOf}
 use Rattle.machine.specs.Examples.{Meets, marked}
-use Rattle.machine.specs.Account.{isPortWrite}
-use Rattle.machine.specs.Theorems.{KeepsFifoAccount}
+use Rattle.promises.specs.Account.{isPortWrite}
+use Rattle.promises.specs.Theorems.{KeepsFifoAccount}
 use Rattle.machine.specs.declared.Step.{Step}
 use Rattle.machine.specs.declared.Answer.{Answer}
 
 -- one that refuses everything: it does as any rule does, but its code is never 0
 abbrev pub refusal : Answer → Answer

@@ -5,18 +5,18 @@ use mathlib.Core.Bool.{Bool, true, false, cond, _||_}
 use mathlib.Core.List.{List, [], _∷_, _++_, map}
 use lib.Dec.{eqb}
 use lib.ListN.{length}
 use Rattle.machine.specs.Words.{bit}
 use Rattle.machine.specs.Sides.{Side}
 use Rattle.machine.specs.State.{State, held, resetState}
 use Rattle.machine.specs.Access.{Access, accessOf}
 use Rattle.machine.specs.Intcsr.{lineOf}
 use Rattle.machine.specs.Code.{tests, isOutOfForm}
 use Rattle.machine.specs.Step.{stepOf, notAFrame}
 use Rattle.machine.specs.Event.{Event}
 use Rattle.machine.specs.Run.{Rule, runOf, run}
-use Rattle.machine.specs.Account.{tally, latest, isWrite, AllAlike, answers, Every, NoClear, Agreed}
+use Rattle.promises.specs.Account.{tally, latest, isWrite, AllAlike, answers, Every, NoClear, Agreed}
 use Rattle.machine.specs.declared.Step.{Step}
 use Rattle.machine.specs.declared.Answer.{Answer}
 
 -- ---- demand 1: every step, on every state, memory and set of numbers
 

@@ -7,8 +7,8 @@ use native.Mathlib.Omega.{arith}
 use lib.Dec.{eqb}
 use lib.Bits.{or-lt, and-le-r}
 use borrow.Author.Tests.{eqb-true, eqb-false}
 use Rattle.machine.specs.Words.{bit, ones, byteMask, mask, shown, merged, written}
-use Rattle.machine.proofs.Bits.{bit-or, bit-and, bit-zero, bit-cleared}
+use Rattle.promises.proofs.Bits.{bit-or, bit-and, bit-zero, bit-cleared}
 
 -- two tests agree below n if they agree on each: by computation for tests of numbers
 abbrev pub listed : ℕ → (ℕ → Bool) → List Bool

@@ -7,14 +7,14 @@ use native.Mathlib.Omega.{arith}
 use lib.Dec.{eqb, leb}
 use lib.ListN.{length}
 use borrow.Author.Tests.{eqb-true, eq-eqb, ne-eqb, leb-true}
 use Rattle.machine.specs.State.{State}
 use Rattle.machine.specs.Access.{Access, accessOf, kindOf}
 use Rattle.machine.specs.Intcsr.{lineOf, intcsrAborted}
 use Rattle.machine.specs.Code.{codeOf, tests, firstOf}
 use Rattle.machine.specs.Step.{notAFrame, stepOf, respond, stateAfter, memoryAfter, answered, replyOf, abortedReply, abortedState}
-use Rattle.machine.specs.Theorems.{Numbered, Refused, NotAFrame, Aborted, AbortOnly, testOf, Lowest, LowestCode, EveryCode}
-use Rattle.machine.proofs.Tests.{and-left, and-right}
-use Rattle.machine.proofs.Bits.{bit-raised}
+use Rattle.promises.specs.Theorems.{Numbered, Refused, NotAFrame, Aborted, AbortOnly, testOf, Lowest, LowestCode, EveryCode}
+use Rattle.promises.proofs.Tests.{and-left, and-right}
+use Rattle.promises.proofs.Bits.{bit-raised}
 
 -- ---- the lowest code
 

@@ -7,16 +7,16 @@ use native.Mathlib.Omega.{arith}
 use lib.Dec.{eqb}
 use lib.ListN.{length}
 use borrow.Author.Tests.{eqb-true}
 use Rattle.machine.specs.Words.{bit}
 use Rattle.machine.specs.Sides.{Side, pci, addon}
 use Rattle.machine.specs.State.{State, resetState}
 use Rattle.machine.specs.Step.{stepOf}
 use Rattle.machine.specs.Event.{Event}
 use Rattle.machine.specs.Run.{run}
-use Rattle.machine.specs.Account.{isDone, isKind, command, clears, wordsIn, wordsOut, Tally, fresh, tallyAfter, talliedFrom, Alike, AllAlike, none, more, answers, NoClear, accepted, Agreed}
-use Rattle.machine.specs.Theorems.{TwoRunsSince, TwoRuns}
+use Rattle.promises.specs.Account.{isDone, isKind, command, clears, wordsIn, wordsOut, Tally, fresh, tallyAfter, talliedFrom, Alike, AllAlike, none, more, answers, NoClear, accepted, Agreed}
+use Rattle.promises.specs.Theorems.{TwoRunsSince, TwoRuns}
 use Rattle.machine.specs.declared.Step.{Step}
-use Rattle.machine.proofs.FifoAccount.{fifo-account}
+use Rattle.promises.proofs.FifoAccount.{fifo-account}
 
 -- ---- two events alike
 

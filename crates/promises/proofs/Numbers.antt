@@ -6,13 +6,13 @@ use mathlib.Core.List.{[], _∷_}
 use native.Mathlib.Omega.{arith}
 use lib.Dec.{eqb, ltb}
 use borrow.Author.Tests.{ne-eqb, lt-ltb}
 use Rattle.machine.specs.Words.{bit}
 use Rattle.machine.specs.Sides.{Side, pci, addon}
 use Rattle.machine.specs.Access.{accessOf, kindOf, isRead, isWrite, cycles, isReset, isUnknown}
 use Rattle.machine.specs.Commands.{commands, clearsFifo}
 use Rattle.machine.specs.Fifos.{letIn, handedOut}
 use Rattle.machine.specs.Event.{Event}
-use Rattle.machine.specs.Account.{isKind, command, clears, wordsIn, wordsOut}
+use Rattle.promises.specs.Account.{isKind, command, clears, wordsIn, wordsOut}
 
 pub record Named (k : ℕ) : Type 0 where
   pub pciRead : isRead pci (kindOf k) ≡ eqb k 0

@@ -6,9 +6,9 @@ use mathlib.Core.List.{List, [], _∷_}
 use lib.Dec.{eqb}
 use lib.ListN.{getD}
 use borrow.Author.Tests.{eq-eqb}
 use Rattle.machine.specs.Sides.{Side, pci, addon, either}
 use Rattle.machine.specs.Code.{firstOf, anyOf}
-use Rattle.machine.specs.Theorems.{testOf}
+use Rattle.promises.specs.Theorems.{testOf}
 
 pub or-left : (a b : Bool) → (a || b) ≡ false → a ≡ false
 or-left true b e = e

@@ -1,0 +1,15 @@
+pub mod Tests
+pub mod Numbers
+pub mod Bits
+pub mod Bytes
+pub mod After
+pub mod Marks
+pub mod Refused
+pub mod Form
+pub mod FifoAccount
+pub mod TwoRuns
+pub mod MailAccount
+pub mod Worthless
+pub mod Readings
+pub mod Events
+pub mod Steps

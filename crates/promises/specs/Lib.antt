@@ -1,0 +1,4 @@
+pub mod Account
+pub mod Theorems
+pub mod Worthless
+pub mod Readings
