@@ -32,7 +32,8 @@ pub fn empty() -> Fifo
 pub fn fill(f: Fifo) -> WordFill
     ensures { λ r. ⌜ r .0 ≡ length (held f) ⌝ }
 {
-    f.fill
+    let n = f.fill.0;
+    WordFill(n)
 }
 
 // For how many more there is room.

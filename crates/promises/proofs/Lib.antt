@@ -13,3 +13,4 @@ pub mod Worthless
 pub mod Readings
 pub mod Events
 pub mod Steps
+pub mod Unique

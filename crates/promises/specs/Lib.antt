@@ -2,3 +2,4 @@ pub mod Account
 pub mod Theorems
 pub mod Worthless
 pub mod Readings
+pub mod Unique

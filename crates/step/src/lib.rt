@@ -1,10 +1,9 @@
 // One step of the controller, by value, over lent host memory.
 ghost use mathlib.Core.Path.{_≡_};
-ghost use mathlib.Core.Bool.{true, false, _&&_, _||_};
+ghost use mathlib.Core.Bool.{false, _&&_, _||_};
 ghost use mathlib.Core.List.{List};
 ghost use Prim.Native.Nat.{ℕ, _<_};
 ghost use lib.ListN.{length};
-ghost use lib.Dec.{eqb};
 ghost use Rattle.machine.specs.Sides.{pci, addon};
 ghost use Rattle.machine.specs.State.{held};
 ghost use Rattle.machine.specs.Access.{accessOf, kindOf, cycles, writes};
@@ -13,10 +12,11 @@ ghost use Rattle.machine.specs.Fifos.{isFull, fifoAfter};
 ghost use Rattle.machine.specs.Window.{placeOf};
 ghost use Rattle.machine.specs.Cycles.{laneAfter, stored, cycleWord};
 ghost use Rattle.machine.specs.Code.{codeOf};
-ghost use Rattle.machine.specs.Step.{doneReply, abortedReply, answered, doneState, abortedState, respond, stepOf};
+ghost use Rattle.machine.specs.Step.{doneReply, abortedReply, answered, doneState, abortedState, respond};
 ghost use Rattle.fifo.specs.Held as ring;
 ghost use Rattle.controller.specs.Controller.{laneOf, stateOf};
 ghost use Rattle.step.specs.Outcome.{outcomeOf};
+ghost use Rattle.step.specs.Unique.{Promised};
 use controller::Controller;
 use controller::Lane;
 use fifo::Fifo;
@@ -252,8 +252,7 @@ fn done(c: Controller, memory: &mut [u32], start: u32, s: Step) -> Stepped
 
 // One step: every controller, memory, start and numbers have an answer, and a refusal leaves the controller as it was.
 pub fn step(c: Controller, memory: &mut [u32], start: u32, s: Step) -> Stepped
-    ensures { λ r. ⌜ outcomeOf r (now (memory .exit)) ≡ stepOf (stateOf c) start (now (memory .entry)) s ⌝ }
-    ensures { λ r. ⌜ (eqb (r .answer .code) 0 ≡ false → eqb (r .answer .code) 13 ≡ false → r .controller ≡ c) ⌝ }
+    ensures { λ r. ⌜ Promised c start (now (memory .entry)) s r (now (memory .exit)) ⌝ }
 {
     let code = code::code(c, start, memory.len(), s);
     if code == codes::DONE {

@@ -1,0 +1,30 @@
+-- What `step` promises of a result and the memory at exit, and that it fixes both.
+use Prim.Native.Nat.{ℕ}
+use mathlib.Core.Path.{_≡_}
+use mathlib.Core.Bool.{false}
+use mathlib.Core.List.{List}
+use lib.Dec.{eqb}
+use Rattle.machine.specs.Step.{stepOf}
+use Rattle.machine.specs.declared.Step.{Step}
+use Rattle.controller.specs.Controller.{stateOf}
+use Rattle.controller.specs.declared.Controller.{Controller}
+use Rattle.step.specs.Outcome.{outcomeOf}
+use Rattle.step.specs.declared.Stepped.{Stepped}
+
+-- the contract: the outcome is the machine's, and a refusal leaves the controller literally as it was
+pub record Promised (c : Controller) (start : ℕ) (memory : List ℕ) (s : Step) (r : Stepped) (after : List ℕ) : Type 0 where
+  pub outcome : outcomeOf r after ≡ stepOf (stateOf c) start memory s
+  pub refused : eqb (r .answer .code) 0 ≡ false → eqb (r .answer .code) 13 ≡ false → r .controller ≡ c
+
+-- two results are the same: state (FIFOs by the words they hold), answer and memory, and where refused the controllers to the letter
+pub record Same (r q : Stepped) (after also : List ℕ) : Type 0 where
+  pub state : stateOf (r .controller) ≡ stateOf (q .controller)
+  pub answer : r .answer ≡ q .answer
+  pub memory : after ≡ also
+  pub refused : eqb (r .answer .code) 0 ≡ false → eqb (r .answer .code) 13 ≡ false → r .controller ≡ q .controller
+
+-- `step-unique`
+abbrev pub StepUnique : Type 0
+StepUnique =
+    (c : Controller) (start : ℕ) (memory : List ℕ) (s : Step) (r q : Stepped) (after also : List ℕ)
+    → Promised c start memory s r after → Promised c start memory s q also → Same r q after also
