@@ -90,7 +90,7 @@ pub fn takes_byte(k: u32, s: Step) -> bool
 pub fn marks_after(s: Step, marks: u32) -> u32
     ensures { λ r. ⌜ r ≡ marksAfter (accessOf s) marks ⌝ }
 {
-    if mcsr::clears_marks(s) {
+    if commands::commands(commands::CLEAR_MARKS, s) {
         return 0;
     }
     if fills(s) {

@@ -1,10 +1,9 @@
-// MCSR: what writing it commands, what it keeps, and its status.
+// MCSR: what it keeps, and its status.
 ghost use mathlib.Core.Path.{_≡_};
 ghost use mathlib.Core.Bool.{cond};
 ghost use Rattle.fifo.specs.Held.{held};
 ghost use Rattle.machine.specs.Sides.{pci, addon};
 ghost use Rattle.machine.specs.Access.{accessOf};
-ghost use Rattle.machine.specs.Commands.{commands, clearsMarks, clearsFifo};
 ghost use Rattle.machine.specs.Mcsr.{mcsrAfter, fifoStatus, mcsrRead};
 ghost use Rattle.controller.specs.Controller.{stateOf};
 use controller::Controller;
@@ -23,12 +22,6 @@ pub const READ_ENABLE: u32 = 14;
 pub const WRITE_FOUR: u32 = 9;
 
 pub const READ_FOUR: u32 = 13;
-// Commands.
-const CLEAR_MARKS: u32 = 27;
-
-const CLEAR_FROM_ADDON: u32 = 26;
-
-const CLEAR_FROM_PCI: u32 = 25;
 // Status: the counts, then the FIFO from the Add-On above the FIFO from PCI, each empty, four or more, full.
 const WRITE_COUNT_ZERO: u32 = 0x80;
 
@@ -39,37 +32,6 @@ const EMPTY: u32 = 0x04;
 const FOUR: u32 = 0x02;
 
 const FULL: u32 = 0x01;
-
-// Whether the step writes a one to bit k of its highest byte, that byte enabled.
-fn commands(k: u32, s: Step) -> bool
-    ensures { λ r. ⌜ r ≡ commands pci k (accessOf s) ⌝ }
-{
-    (s.kind == kinds::PCI_WRITE)
-        & (s.offset == offsets::MCSR)
-        & word::bit(s.enables, 3)
-        & word::bit(s.value, k)
-}
-
-// 27 marks every mailbox byte empty.
-pub fn clears_marks(s: Step) -> bool
-    ensures { λ r. ⌜ r ≡ clearsMarks (accessOf s) ⌝ }
-{
-    commands(CLEAR_MARKS, s)
-}
-
-// 25 empties the FIFO from PCI.
-pub fn clears_from_pci(s: Step) -> bool
-    ensures { λ r. ⌜ r ≡ clearsFifo pci (accessOf s) ⌝ }
-{
-    commands(CLEAR_FROM_PCI, s)
-}
-
-// 26 empties the FIFO from the Add-On.
-pub fn clears_from_addon(s: Step) -> bool
-    ensures { λ r. ⌜ r ≡ clearsFifo addon (accessOf s) ⌝ }
-{
-    commands(CLEAR_FROM_ADDON, s)
-}
 
 // MCSR after a done step.
 pub fn mcsr_after(s: Step, old: u32) -> u32

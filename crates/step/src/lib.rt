@@ -56,7 +56,7 @@ fn from_pci_fifo(f: Fifo, s: Step, word: u32) -> Fifo
     requires { ⌜ ((cycles pci (kindOf (s .kind)) || writes pci fifoPort (accessOf s)) && isFull (ring.held f)) ≡ false ⌝ }
     ensures { λ r. ⌜ ring.held r ≡ fifoAfter pci (accessOf s) word (ring.held f) ⌝ }
 {
-    if mcsr::clears_from_pci(s) {
+    if commands::commands(commands::CLEAR_FROM_PCI, s) {
         return fifo::empty();
     }
     if s.kind == kinds::READ_CYCLE {
@@ -77,7 +77,7 @@ fn from_addon_fifo(f: Fifo, s: Step, word: u32) -> Fifo
     requires { ⌜ (writes addon fifoPort (accessOf s) && isFull (ring.held f)) ≡ false ⌝ }
     ensures { λ r. ⌜ ring.held r ≡ fifoAfter addon (accessOf s) word (ring.held f) ⌝ }
 {
-    if mcsr::clears_from_addon(s) {
+    if commands::commands(commands::CLEAR_FROM_ADDON, s) {
         return fifo::empty();
     }
     if s.kind == kinds::WRITE_CYCLE {

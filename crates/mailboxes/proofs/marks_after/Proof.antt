@@ -11,7 +11,7 @@ use Rattle.mailboxes.proofs.marks_after.Tie as tie
 returns : tie.Need-returns
 unfolding marksAfter
 returns c =
-    let on : clearsMarks (accessOf (c .before .before .args .s)) ≡ true = sym (c .before .clears-marks .ensures) ∙ c .if1 .taken in
+    let on : clearsMarks (accessOf (c .before .before .args .s)) ≡ true = sym (c .before .commands .ensures) ∙ c .if1 .taken in
     simp on
 
 marks-at-requires : tie.Need-marks-at-requires
@@ -21,7 +21,7 @@ returns-2 : tie.Need-returns-2
 unfolding marksAfter
 returns-2 c =
     let s = c .before .before .before .before .before .args .s in
-    let kept : clearsMarks (accessOf s) ≡ false = sym (c .before .before .before .before .clears-marks .ensures) ∙ c .before .before .before .if1 .left in
+    let kept : clearsMarks (accessOf s) ≡ false = sym (c .before .before .before .before .commands .ensures) ∙ c .before .before .before .if1 .left in
     let on : fills (accessOf s) ≡ true = sym (c .before .before .fills .ensures) ∙ c .before .if2 .taken in
     simp (kept, on, c .marks-at .ensures)
 
@@ -32,7 +32,7 @@ returns-3 : tie.Need-returns-3
 unfolding marksAfter
 returns-3 c =
     let s = c .before .before .before .before .before .before .before .before .args .s in
-    let kept : clearsMarks (accessOf s) ≡ false = sym (c .before .before .before .before .before .before .before .clears-marks .ensures) ∙ c .before .before .before .before .before .before .if1 .left in
+    let kept : clearsMarks (accessOf s) ≡ false = sym (c .before .before .before .before .before .before .before .commands .ensures) ∙ c .before .before .before .before .before .before .if1 .left in
     let off : fills (accessOf s) ≡ false = sym (c .before .before .before .before .before .fills .ensures) ∙ c .before .before .before .before .if2 .left in
     let on : takes (accessOf s) ≡ true = sym (c .before .before .before .takes .ensures) ∙ c .before .before .if3 .taken in
     simp (kept, off, on, c .cleared .ensures, c .before .marks-at2 .ensures)
@@ -41,7 +41,7 @@ returns-4 : tie.Need-returns-4
 unfolding marksAfter
 returns-4 c =
     let s = c .before .before .before .before .before .before .args .s in
-    let kept : clearsMarks (accessOf s) ≡ false = sym (c .before .before .before .before .before .clears-marks .ensures) ∙ c .before .before .before .before .if1 .left in
+    let kept : clearsMarks (accessOf s) ≡ false = sym (c .before .before .before .before .before .commands .ensures) ∙ c .before .before .before .before .if1 .left in
     let off : fills (accessOf s) ≡ false = sym (c .before .before .before .fills .ensures) ∙ c .before .before .if2 .left in
     let none : takes (accessOf s) ≡ false = sym (c .before .takes .ensures) ∙ c .if3 .left in
     simp (kept, off, none)

@@ -16,7 +16,7 @@ use Rattle.step.proofs.from_addon_fifo.Tie as tie
 
 returns : tie.Need-returns
 returns c =
-    let on : clearsFifo addon (accessOf (c .before .before .before .args .s)) ≡ true = sym (c .before .before .clears-from-addon .ensures) ∙ c .before .if1 .taken in
+    let on : clearsFifo addon (accessOf (c .before .before .before .args .s)) ≡ true = sym (c .before .before .commands .ensures) ∙ c .before .if1 .taken in
     simp on (c .empty .ensures)
 
 returns-2 : tie.Need-returns-2
@@ -43,7 +43,7 @@ returns-5 : tie.Need-returns-5
 returns-5 c =
     let s = c .before .before .before .before .before .before .before .before .before .args .s in
     let k = named (s .kind) in
-    let kept : clearsFifo addon (accessOf s) ≡ false = sym (c .before .before .before .before .before .before .before .before .clears-from-addon .ensures) ∙ c .before .before .before .before .before .before .before .if1 .left in
+    let kept : clearsFifo addon (accessOf s) ≡ false = sym (c .before .before .before .before .before .before .before .before .commands .ensures) ∙ c .before .before .before .before .before .before .before .if1 .left in
     let none = ne-eqb (s .kind) 4 (c .before .before .before .before .before .if2 .left) in
     fifo-same addon (accessOf s) (c .before .before .before .before .before .before .before .before .before .args .word) (held (c .before .before .before .before .before .before .before .before .before .args .f)) kept (refl)
     ((λ i. k .addonWrite i && eqb (s .offset) 0x20) ∙ c .before .before .if3 .left)

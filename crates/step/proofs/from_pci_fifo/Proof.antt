@@ -16,7 +16,7 @@ use Rattle.step.proofs.from_pci_fifo.Tie as tie
 
 returns : tie.Need-returns
 returns c =
-    let on : clearsFifo pci (accessOf (c .before .before .before .args .s)) ≡ true = sym (c .before .before .clears-from-pci .ensures) ∙ c .before .if1 .taken in
+    let on : clearsFifo pci (accessOf (c .before .before .before .args .s)) ≡ true = sym (c .before .before .commands .ensures) ∙ c .before .if1 .taken in
     simp on (c .empty .ensures)
 
 returns-2 : tie.Need-returns-2
@@ -46,7 +46,7 @@ returns-5 : tie.Need-returns-5
 returns-5 c =
     let s = c .before .before .before .before .before .before .before .before .before .args .s in
     let k = named (s .kind) in
-    let kept : clearsFifo pci (accessOf s) ≡ false = sym (c .before .before .before .before .before .before .before .before .clears-from-pci .ensures) ∙ c .before .before .before .before .before .before .before .if1 .left in
+    let kept : clearsFifo pci (accessOf s) ≡ false = sym (c .before .before .before .before .before .before .before .before .commands .ensures) ∙ c .before .before .before .before .before .before .before .if1 .left in
     let none = ne-eqb (s .kind) 5 (c .before .before .before .before .before .if2 .left) in
     fifo-same pci (accessOf s) (c .before .before .before .before .before .before .before .before .before .args .word) (held (c .before .before .before .before .before .before .before .before .before .args .f)) kept (k .readCycle ∙ none)
     ((λ i. k .pciWrite i && eqb (s .offset) 0x20) ∙ c .before .before .if3 .left)

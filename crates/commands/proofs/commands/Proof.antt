@@ -1,7 +1,7 @@
 use Rattle.promises.proofs.Numbers.{named}
 use borrow.Author.Needs.{needs}
-use Rattle.mcsr.proofs.commands.Statement.{statement}
-use Rattle.mcsr.proofs.commands.Tie as tie
+use Rattle.commands.proofs.commands.Statement.{statement}
+use Rattle.commands.proofs.commands.Tie as tie
 
 returns : tie.Need-returns
 returns c = simp (named (c .before .before .before .before .args .s .kind) .pciWrite, c .bit2 .ensures, c .before .bit .ensures)
