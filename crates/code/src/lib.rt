@@ -181,7 +181,7 @@ fn is_not_ready(c: Controller, s: Step) -> bool
 fn is_inside(start: u32, words: usize, address: u32) -> bool
     ensures { λ r. ⌜ r ≡ inside start words address ⌝ }
 {
-    (transfers::place(start, address) as usize) < words
+    (address::place(start, address) as usize) < words
 }
 
 // Code 13, no memory there.

@@ -77,10 +77,10 @@ pub fn intcsr_after(c: Controller, s: Step) -> u32
         return word::raised(i, incoming_event(i, s), INCOMING);
     }
     if s.kind == kinds::WRITE_CYCLE {
-        return word::raised(i, transfers::runs_out(c.from_addon.count), WRITE_COUNT);
+        return word::raised(i, count::runs_out(c.from_addon.count), WRITE_COUNT);
     }
     if s.kind == kinds::READ_CYCLE {
-        return word::raised(i, transfers::runs_out(c.from_pci.count), READ_COUNT);
+        return word::raised(i, count::runs_out(c.from_pci.count), READ_COUNT);
     }
     i
 }

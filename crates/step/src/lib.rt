@@ -99,8 +99,8 @@ fn from_pci_lane(l: Lane, s: Step, word: u32) -> Lane
     ensures { λ r. ⌜ laneOf r ≡ laneAfter pci (accessOf s) word (laneOf l) ⌝ }
 {
     let fifo = from_pci_fifo(l.fifo, s, word);
-    let address = transfers::read_address_after(s, l.address);
-    let count = transfers::read_count_after(s, l.count);
+    let address = address::read_address_after(s, l.address);
+    let count = count::read_count_after(s, l.count);
     Lane {
         fifo,
         address,
@@ -114,8 +114,8 @@ fn from_addon_lane(l: Lane, s: Step, word: u32) -> Lane
     ensures { λ r. ⌜ laneOf r ≡ laneAfter addon (accessOf s) word (laneOf l) ⌝ }
 {
     let fifo = from_addon_fifo(l.fifo, s, word);
-    let address = transfers::write_address_after(s, l.address);
-    let count = transfers::write_count_after(s, l.count);
+    let address = address::write_address_after(s, l.address);
+    let count = count::write_count_after(s, l.count);
     Lane {
         fifo,
         address,
@@ -188,8 +188,8 @@ fn read_word(c: Controller, memory: &[u32], start: u32) -> u32
     requires { ⌜ placeOf start (stateOf c .fromPci .address) < length (now memory) ⌝ }
     ensures { λ r. ⌜ r ≡ cycleWord pci (stateOf c) start (now (memory .entry)) ⌝ }
 {
-    let at = transfers::place(start, c.from_pci.address) as usize;
-    word::shown(memory[at], transfers::low_enables(c.from_pci.count))
+    let at = address::place(start, c.from_pci.address) as usize;
+    word::shown(memory[at], count::low_enables(c.from_pci.count))
 }
 
 // The front word's lowest bytes go into the memory word.
@@ -197,9 +197,9 @@ fn store(c: Controller, memory: &mut [u32], start: u32)
     requires { ⌜ placeOf start (stateOf c .fromAddon .address) < length (now memory) ⌝ }
     ensures { λ r. ⌜ now (memory .exit) ≡ stored (stateOf c) start (now (memory .entry)) ⌝ }
 {
-    let at = transfers::place(start, c.from_addon.address) as usize;
+    let at = address::place(start, c.from_addon.address) as usize;
     let word = fifo::front(c.from_addon.fifo);
-    memory[at] = word::merged(memory[at], word, transfers::low_enables(c.from_addon.count));
+    memory[at] = word::merged(memory[at], word, count::low_enables(c.from_addon.count));
 }
 
 // A write cycle that is done.
@@ -209,7 +209,7 @@ fn write_cycle(c: Controller, memory: &mut [u32], start: u32, s: Step) -> Steppe
     ensures { λ r. ⌜ outcomeOf r (now (memory .exit)) ≡ respond (stateOf c) start (now (memory .entry)) (accessOf s) 0 ⌝ }
 {
     let word = fifo::front(c.from_addon.fifo);
-    let enables = transfers::low_enables(c.from_addon.count);
+    let enables = count::low_enables(c.from_addon.count);
     let next = done_state(c, s, word);
     store(c, memory, start);
     answered(next, codes::DONE, c.from_addon.address, word, enables)
@@ -222,7 +222,7 @@ fn read_cycle(c: Controller, memory: &[u32], start: u32, s: Step) -> Stepped
     ensures { λ r. ⌜ outcomeOf r (now (memory .entry)) ≡ respond (stateOf c) start (now (memory .entry)) (accessOf s) 0 ⌝ }
 {
     let word = read_word(c, memory, start);
-    let enables = transfers::low_enables(c.from_pci.count);
+    let enables = count::low_enables(c.from_pci.count);
     answered(
         done_state(c, s, word),
         codes::DONE,

@@ -1,8 +1,8 @@
 use Rattle.machine.specs.Cycles.{countAfter}
 use Rattle.promises.proofs.Numbers.{named}
 use borrow.Author.Needs.{needs}
-use Rattle.transfers.proofs.write_count_after.Statement.{statement}
-use Rattle.transfers.proofs.write_count_after.Tie as tie
+use Rattle.count.proofs.write_count_after.Statement.{statement}
+use Rattle.count.proofs.write_count_after.Tie as tie
 
 returns : tie.Need-returns
 unfolding countAfter

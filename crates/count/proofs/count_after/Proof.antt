@@ -1,7 +1,7 @@
 use borrow.Author.Tests.{eq-eqb, ne-eqb}
 use borrow.Author.Needs.{needs}
-use Rattle.transfers.proofs.count_after.Statement.{statement}
-use Rattle.transfers.proofs.count_after.Tie as tie
+use Rattle.count.proofs.count_after.Statement.{statement}
+use Rattle.count.proofs.count_after.Tie as tie
 
 returns : tie.Need-returns
 returns c = simp (c .before .if1 .taken, c .written .ensures)

@@ -1,6 +1,6 @@
 use borrow.Author.Needs.{needs}
-use Rattle.transfers.proofs.runs_out.Statement.{statement}
-use Rattle.transfers.proofs.runs_out.Tie as tie
+use Rattle.count.proofs.runs_out.Statement.{statement}
+use Rattle.count.proofs.runs_out.Tie as tie
 
 returns : tie.Need-returns
 returns c = simp (c .before .count-left .ensures)

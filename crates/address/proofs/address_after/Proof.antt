@@ -1,7 +1,7 @@
 use borrow.Author.Tests.{eq-eqb, ne-eqb}
 use borrow.Author.Needs.{needs}
-use Rattle.transfers.proofs.address_after.Statement.{statement}
-use Rattle.transfers.proofs.address_after.Tie as tie
+use Rattle.address.proofs.address_after.Statement.{statement}
+use Rattle.address.proofs.address_after.Tie as tie
 
 returns : tie.Need-returns
 returns c = simp (c .before .if1 .taken, c .written .ensures)

@@ -2,8 +2,8 @@ use mathlib.Core.Path.{_≡_}
 use native.Mathlib.Omega.{arith}
 use Rattle.machine.specs.Cycles.{lowEnables}
 use borrow.Author.Needs.{needs}
-use Rattle.transfers.proofs.low_enables.Statement.{statement}
-use Rattle.transfers.proofs.low_enables.Tie as tie
+use Rattle.count.proofs.low_enables.Statement.{statement}
+use Rattle.count.proofs.low_enables.Tie as tie
 
 returns : tie.Need-returns
 unfolding lowEnables

@@ -1,8 +1,8 @@
 use Rattle.machine.specs.Cycles.{addressAfter}
 use Rattle.promises.proofs.Numbers.{named}
 use borrow.Author.Needs.{needs}
-use Rattle.transfers.proofs.write_address_after.Statement.{statement}
-use Rattle.transfers.proofs.write_address_after.Tie as tie
+use Rattle.address.proofs.write_address_after.Statement.{statement}
+use Rattle.address.proofs.write_address_after.Tie as tie
 
 returns : tie.Need-returns
 unfolding addressAfter
