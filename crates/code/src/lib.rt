@@ -150,7 +150,11 @@ fn is_abort_standing(c: Controller, s: Step) -> bool
 fn needed(four: bool) -> WordFill
     ensures { λ r. ⌜ r .0 ≡ cond four 4 1 ⌝ }
 {
-    if four { WordFill(4) } else { WordFill(1) }
+    if four {
+        WordFill(fifo::FOUR_WORDS)
+    } else {
+        WordFill(1)
+    }
 }
 
 // Whether there is room for what a read cycle lets in.

@@ -12,6 +12,9 @@ pub struct WordFill(pub u32);
 
 pub const DEPTH: u32 = 8;
 
+// The words, or the room for words, that MCSR 9 and 13 ask for and that its status tells of.
+pub const FOUR_WORDS: u32 = 4;
+
 pub struct Fifo {
     pub words: [u32; 8],
     pub head: u32,

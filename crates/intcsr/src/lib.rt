@@ -12,16 +12,19 @@ use machine::offsets;
 pub const KEPT: u32 = 0x0000_DF1F;
 
 pub const EVENTS: u32 = 0x003F_0000;
+
 // The enables of the events and of the line.
 const OUTGOING_ENABLE: u32 = 4;
 
 const INCOMING_ENABLE: u32 = 12;
+
 // Where the choice of the incoming byte begins.
 const INCOMING_CHOICE: u32 = 8;
 
 const WRITE_COUNT_ENABLE: u32 = 14;
 
 const READ_COUNT_ENABLE: u32 = 15;
+
 // The flags.
 const OUTGOING: u32 = 16;
 

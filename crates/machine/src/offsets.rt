@@ -16,5 +16,6 @@ pub const STATUS: u32 = 0x34;
 pub const INTCSR: u32 = 0x38;
 
 pub const MCSR: u32 = 0x3C;
+
 // the first offset past PCI's table
 pub const END: u32 = 0x40;

@@ -12,6 +12,7 @@ use machine::offsets;
 
 // The outgoing bytes are the lower sixteen of the status, the incoming ones the upper.
 pub const HALF: u32 = 16;
+
 // Enables are numbers below this.
 const ENABLES: u32 = 16;
 

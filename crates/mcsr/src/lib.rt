@@ -14,6 +14,7 @@ use machine::offsets;
 
 // The bits that it keeps: 15 to 12 and 10 to 8.
 pub const KEPT: u32 = 0x0000_F700;
+
 // Enables and thresholds of the cycles.
 pub const WRITE_ENABLE: u32 = 10;
 
@@ -22,6 +23,7 @@ pub const READ_ENABLE: u32 = 14;
 pub const WRITE_FOUR: u32 = 9;
 
 pub const READ_FOUR: u32 = 13;
+
 // Status: the counts, then the FIFO from the Add-On above the FIFO from PCI, each empty, four or more, full.
 const WRITE_COUNT_ZERO: u32 = 0x80;
 
@@ -32,6 +34,9 @@ const EMPTY: u32 = 0x04;
 const FOUR: u32 = 0x02;
 
 const FULL: u32 = 0x01;
+
+// How far above the other the status of the FIFO from the Add-On stands: three bits.
+const ABOVE: u32 = 8;
 
 // MCSR after a done step.
 pub fn mcsr_after(s: Step, old: u32) -> u32
@@ -53,14 +58,18 @@ fn flag(on: bool, one: u32) -> u32
 fn from_pci_status(f: Fifo) -> u32
     ensures { λ r. ⌜ r ≡ fifoStatus pci (held f) ⌝ }
 {
-    flag(fifo::is_empty(f), EMPTY) | flag(4 <= fifo::room(f).0, FOUR) | flag(fifo::is_full(f), FULL)
+    flag(fifo::is_empty(f), EMPTY)
+        | flag(fifo::FOUR_WORDS <= fifo::room(f).0, FOUR)
+        | flag(fifo::is_full(f), FULL)
 }
 
 // The status of the FIFO from the Add-On.
 fn from_addon_status(f: Fifo) -> u32
     ensures { λ r. ⌜ r ≡ fifoStatus addon (held f) ⌝ }
 {
-    flag(fifo::is_empty(f), EMPTY) | flag(4 <= fifo::fill(f).0, FOUR) | flag(fifo::is_full(f), FULL)
+    flag(fifo::is_empty(f), EMPTY)
+        | flag(fifo::FOUR_WORDS <= fifo::fill(f).0, FOUR)
+        | flag(fifo::is_full(f), FULL)
 }
 
 // MCSR as it is read.
@@ -71,5 +80,5 @@ pub fn mcsr_read(c: Controller) -> u32
     let read_zero = flag(c.from_pci.count.0 == 0, READ_COUNT_ZERO);
     let out = from_addon_status(c.from_addon.fifo);
     let back = from_pci_status(c.from_pci.fifo);
-    c.mcsr | (write_zero | read_zero | (out * 8 | back))
+    c.mcsr | (write_zero | read_zero | (out * ABOVE | back))
 }

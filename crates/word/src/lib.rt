@@ -4,11 +4,14 @@ ghost use Prim.Native.Nat.{_%_};
 ghost use mathlib.Core.Bool.{cond};
 ghost use Rattle.machine.specs.Words.{bit, mask, cleared, raised, shown, merged, written, only};
 
+// The bits of a word.
+const BITS: u32 = 32;
+
 // Whether bit k of x is set.
 pub fn bit(x: u32, k: u32) -> bool
     ensures { λ r. ⌜ r ≡ bit x k ⌝ }
 {
-    if k < 32 { (x >> k) % 2 == 1 } else { false }
+    if k < BITS { (x >> k) % 2 == 1 } else { false }
 }
 
 // The word `ones` if enable bit i is set, else zero.
@@ -39,7 +42,7 @@ pub fn cleared(x: u32, y: u32) -> u32
 pub fn raised(x: u32, on: bool, k: u32) -> u32
     ensures { λ r. ⌜ r ≡ raised x on (k % 32) ⌝ }
 {
-    if on { x | 1 << (k % 32) } else { x }
+    if on { x | 1 << (k % BITS) } else { x }
 }
 
 // The enabled bytes of x, zero at the others.
