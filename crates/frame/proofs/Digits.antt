@@ -1,0 +1,69 @@
+-- The loops over digits, and the parts of a line of digits.
+--     all-more, all-stop, all-end    whether all are digits, by the byte at a place
+--     number-more, number-end        the number of the digits from a place on
+--     more, small                    one digit more, as a bound; eight digits at most
+--     all-part                       a part of a line of digits is one of digits
+use Prim.Native.Nat.{ℕ, zero, suc, _+_, _*_, _^_, _≤_, _<_}
+use mathlib.Core.Path.{_≡_, refl, sym, ap, _∙_}
+use mathlib.Core.List.{List, [], _∷_, _++_}
+use mathlib.Core.Bool.{Bool, true, false, _&&_}
+use native.Mathlib.Nat.{pow-suc, pow-le-pow-right}
+use native.Mathlib.Numerals.{add-one}
+use native.Mathlib.Omega.{arith}
+use borrow.Author.Tests.{lt-ltb, le-ltb, ltb-true}
+use lib.ListN.{length, getD, drop, take, drop-of-length-le}
+use lib.Seq.{drop-cons}
+use lib.Dec.{ltb, lit<}
+use Rattle.hex.specs.Hex.{digitNumber, allDigits, numberFrom}
+use Rattle.hex.proofs.Numbers.{all-parts}
+
+module _ (s : List ℕ) (i : ℕ) where
+  pub all-more : i < length s → digitNumber (getD s i 0) < 16 → allDigits (drop i s) ≡ allDigits (drop (i + 1) s)
+  unfolding allDigits
+  all-more h d = rw (add-one, drop-cons s i 0, lt-ltb (digitNumber (getD s i 0)) 16)
+
+  pub all-stop : i < length s → 16 ≤ digitNumber (getD s i 0) → allDigits (drop i s) ≡ false
+  unfolding allDigits
+  all-stop h d = rw (drop-cons s i 0, le-ltb (digitNumber (getD s i 0)) 16)
+
+  pub all-end : length s ≤ i → allDigits (drop i s) ≡ true
+  unfolding allDigits
+  all-end h = rw (drop-of-length-le s h)
+
+  -- all that are left are digits: the one there, and the rest
+  pub all-here : i < length s → allDigits (drop i s) ≡ true → (digitNumber (getD s i 0) < 16) × (allDigits (drop (i + 1) s) ≡ true)
+  unfolding allDigits
+  all-here h e =
+      let parts = all-parts (ltb (digitNumber (getD s i 0)) 16) (allDigits (drop (suc i) s)) (rw (drop-cons s i 0 h) at e) in
+      (ltb-true (digitNumber (getD s i 0)) 16 (parts .0), rw add-one (parts .1))
+
+  pub number-more : (n : ℕ) → i < length s → numberFrom n (drop i s) ≡ numberFrom (n * 16 + digitNumber (getD s i 0)) (drop (i + 1) s)
+  unfolding numberFrom
+  number-more n h = rw (add-one, drop-cons s i 0)
+
+  pub number-end : (n : ℕ) → length s ≤ i → numberFrom n (drop i s) ≡ n
+  unfolding numberFrom
+  number-end n h = rw (drop-of-length-le s h)
+
+pub more : (i n d : ℕ) → n < 16 ^ i → d < 16 → n * 16 + d < 16 ^ (i + 1)
+more i n d h k = rw (add-one, pow-suc) (omega arith)
+
+pub small : {i : ℕ} → i ≤ 8 → 16 ^ i ≤ 16 ^ 8
+small h = pow-le-pow-right {n = 16} (lit< tt) h
+
+all-drop : (k : ℕ) (s : List ℕ) → allDigits s ≡ true → allDigits (drop k s) ≡ true
+unfolding allDigits
+all-drop zero s e = e
+all-drop (suc k) [] e = refl
+all-drop (suc k) (b ∷ s) e = all-drop k s (all-parts (ltb (digitNumber b) 16) (allDigits s) e .1)
+
+all-take : (k : ℕ) (s : List ℕ) → allDigits s ≡ true → allDigits (take k s) ≡ true
+unfolding allDigits
+all-take zero s e = refl
+all-take (suc k) [] e = refl
+all-take (suc k) (b ∷ s) e =
+    let parts = all-parts (ltb (digitNumber b) 16) (allDigits s) e in
+    rw (parts .0) (all-take k s (parts .1))
+
+pub all-part : (from count : ℕ) (s : List ℕ) → allDigits s ≡ true → allDigits (take count (drop from s)) ≡ true
+all-part from count s e = all-take count (drop from s) (all-drop from s e)

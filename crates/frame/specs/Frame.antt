@@ -1,0 +1,33 @@
+-- What a line of text says: a step, or nothing.
+use Prim.Native.Nat.{ℕ}
+use mathlib.Core.List.{List}
+use mathlib.Core.Bool.{Bool, cond, _&&_}
+use lib.ListN.{length, take, drop}
+use lib.Dec.{eqb}
+use Rattle.machine.specs.State.{State}
+use Rattle.machine.specs.Step.{Outcome, stepOf, notAFrame}
+use Rattle.machine.specs.declared.Step.{Step}
+use Rattle.hex.specs.Hex.{allDigits, number}
+use Rattle.frame.specs.declared.Framed.{Framed}
+use Rattle.frame.specs.declared.Framed.the-variants.{Frame, NotAFrame}
+
+-- `count` bytes of a line, from a place on
+abbrev pub part : ℕ → ℕ → List ℕ → List ℕ
+part from count line = take count (drop from line)
+
+-- "upper-case hexadecimal, 13 digits"
+unfoldable pub isFrame : List ℕ → Bool
+isFrame line = eqb (length line) 13 && allDigits line
+
+-- "kind 2, offset 2, enables 1, data 8"
+unfoldable pub stepIn : List ℕ → Step
+stepIn line = record { kind = number (part 0 2 line); offset = number (part 2 2 line); enables = number (part 4 1 line); value = number (part 5 8 line) }
+
+-- the reader's answer
+unfoldable pub frameOf : List ℕ → Framed
+frameOf line = cond (isFrame line) (Frame (stepIn line)) NotAFrame
+
+-- What each case of that answer stands for: a frame is a step; "any other line, the empty one included, is code 14 and makes no step".
+unfoldable pub outcomeOf : Framed → State → ℕ → List ℕ → Outcome
+outcomeOf (Frame s) st start memory = stepOf st start memory s
+outcomeOf NotAFrame st start memory = record { state = st; memory = memory; answer = notAFrame st }

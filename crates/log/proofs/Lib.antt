@@ -1,0 +1,4 @@
+pub mod Told
+pub mod Room
+pub mod Carried
+pub mod Within

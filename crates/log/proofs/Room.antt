@@ -1,0 +1,34 @@
+-- The room that lines want, as the code's test has it, and the output with the log.
+use Prim.Native.Nat.{ℕ, _*_, _/_, _≤_, _<_}
+use mathlib.Core.Path.{_≡_, sym, _∙_}
+use mathlib.Core.List.{List, [], _++_}
+use mathlib.Core.Bool.{Bool, true, false}
+use native.Mathlib.Nat.{zero-add}
+use native.Mathlib.Omega.{arith}
+use borrow.Author.Tests.{lt-ltb, le-ltb}
+use lib.ListN.{length}
+use lib.Seq.{sets-eq}
+use Rattle.machine.specs.declared.Answer.{Answer}
+use Rattle.logline.specs.LogLine.{lineRoom}
+use Rattle.logline.specs.Wrote.{Wrote}
+use Rattle.log.specs.Log.{logOf}
+use Rattle.log.specs.Results.{isShort, withLog}
+use Rattle.log.proofs.Told.{log-length}
+
+module _ (most : ℕ) (out : List ℕ) where
+  pub short : length out / lineRoom < most → isShort most out ≡ true
+  unfolding isShort
+  short h = lt-ltb (length out) (lineRoom * most) (omega arith)
+
+  pub long : most ≤ length out / lineRoom → isShort most out ≡ false
+  unfolding isShort
+  long h = le-ltb (length out) (lineRoom * most) (omega arith)
+
+-- what is written from the output's start, with room for it
+module _ (answers : List Answer) {out out′ : List ℕ} {r : ℕ} (w : Wrote out 0 (logOf answers) r out′) where
+  pub log-end : r ≡ length (logOf answers)
+  log-end = w .next ∙ zero-add (length (logOf answers))
+
+  pub with-log : lineRoom * length answers ≤ length out → out′ ≡ withLog answers out
+  unfolding withLog
+  with-log h = w .over ∙ sets-eq (logOf answers) out 0 (omega (arith, log-length answers)) ∙ rw zero-add

@@ -1,0 +1,39 @@
+use denote.Ref.{now}
+use mathlib.Core.Path.{_≡_, refl, sym, _∙_}
+use mathlib.Core.Bool.{true≢false}
+use native.Mathlib.Omega.{arith}
+use lib.ListN.{length}
+use Rattle.controller.specs.Controller.{stateOf}
+use Rattle.log.specs.Log.{fedOf}
+use Rattle.log.specs.Results.{begunOf, pieceOf}
+use Rattle.log.proofs.Carried.{answers-few}
+use Rattle.log.proofs.Room.{short, long, log-end, with-log}
+use borrow.Author.Needs.{needs}
+use Rattle.log.proofs.feed.Statement.{statement}
+use Rattle.log.proofs.feed.Tie as tie
+
+returns : tie.Need-returns
+unfolding pieceOf
+returns c =
+    let a = c .before .before .before .before .args in
+    let few = short (length (now (a .piece))) (now (a .out)) (c .if1 .taken) in
+    record { fed = simp few; refused = λ e. refl }
+
+returns-2 : tie.Need-returns-2
+unfolding pieceOf
+returns-2 c =
+    let g = c .before .before .before .before .before in
+    let e = g .before .before .before in
+    let a = e .before .before .before .before .args in
+    let enough = long (length (now (a .piece))) (now (a .out)) (e .if1 .left) in
+    let w = g .feed-bytes .ensures in
+    let st = stateOf (a .s .controller) in
+    let f = fedOf st (a .start) (now (a .memory)) (begunOf (a .s)) (now (a .piece)) in
+    let n = answers-few st (a .start) (now (a .memory)) (begunOf (a .s)) (now (a .piece)) in
+    record {
+      fed = rw (w .state, w .memory, w .begun, log-end (f .answers) (w .log), with-log (f .answers) (w .log) (omega (arith, n, e .if1 .left))) (simp enough);
+      refused = λ f. absurd (true≢false (sym f ∙ enough));
+    }
+
+pub feed-spec : {M : Type 1} → statement M
+feed-spec = tie.close (tie.spec returns (λ c κs. search needs) (λ c. search needs) (λ c. search needs) returns-2)

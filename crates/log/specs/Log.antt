@@ -1,0 +1,64 @@
+-- The log of a text, and of a text that comes in pieces.
+use Prim.Native.Nat.{ℕ}
+use mathlib.Core.List.{List, [], _∷_, _++_}
+use mathlib.Core.Bool.{cond}
+use lib.ListN.{take}
+use lib.Dec.{eqb}
+use Rattle.machine.specs.State.{State}
+use Rattle.machine.specs.Step.{Outcome}
+use Rattle.machine.specs.declared.Answer.{Answer}
+use Rattle.lines.specs.Lines.{lf, lines}
+use Rattle.frame.specs.Frame.{frameOf, outcomeOf}
+use Rattle.logline.specs.LogLine.{logLine}
+
+-- what a line brings about: its step, or code 14
+unfoldable pub lineOutcome : State → ℕ → List ℕ → List ℕ → Outcome
+lineOutcome st start memory line = outcomeOf (frameOf line) st start memory
+
+-- "each answer has one log line"
+unfoldable pub logOf : List Answer → List ℕ
+logOf [] = []
+logOf (a ∷ more) = logLine a ++ logOf more
+
+-- ---- a text
+
+-- what lines leave, and their answers, one for each line
+pub record Told : Type 0 where
+  pub state : State
+  pub memory : List ℕ
+  pub answers : List Answer
+
+-- a line is answered from what the lines before it left
+unfoldable pub toldOf : State → ℕ → List ℕ → List (List ℕ) → Told
+toldOf st start memory [] = record { state = st; memory = memory; answers = [] }
+toldOf st start memory (line ∷ more) =
+    let o = lineOutcome st start memory line in
+    let t = toldOf (o .state) start (o .memory) more in
+    record { state = t .state; memory = t .memory; answers = o .answer ∷ t .answers }
+
+-- a text is told line by line
+abbrev pub textTold : State → ℕ → List ℕ → List ℕ → Told
+textTold st start memory text = toldOf st start memory (lines text)
+
+-- ---- a text in pieces
+
+-- of a line that has not ended these many bytes are kept: they tell whether it is a frame, since a line of 14 is none
+abbrev pub kept : ℕ
+kept = 14
+
+-- what a piece leaves: state, memory, the kept bytes of the line that has not ended, and the answers to the lines that have
+pub record Fed : Type 0 where
+  pub state : State
+  pub memory : List ℕ
+  pub begun : List ℕ
+  pub answers : List Answer
+
+abbrev pub answering : Answer → Fed → Fed
+answering a f = record { state = f .state; memory = f .memory; begun = f .begun; answers = a ∷ f .answers }
+
+-- byte by byte, after the bytes `begun`: an LF ends the line
+unfoldable pub fedOf : State → ℕ → List ℕ → List ℕ → List ℕ → Fed
+fedOf st start memory begun [] = record { state = st; memory = memory; begun = begun; answers = [] }
+fedOf st start memory begun (x ∷ xs) =
+    let o = lineOutcome st start memory begun in
+    cond (eqb x lf) (answering (o .answer) (fedOf (o .state) start (o .memory) [] xs)) (fedOf st start memory (take kept (begun ++ (x ∷ []))) xs)

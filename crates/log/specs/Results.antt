@@ -1,0 +1,96 @@
+-- What the functions that write a log leave, with room for it and without.
+use Prim.Native.Nat.{ℕ, _*_}
+use mathlib.Core.Path.{_≡_}
+use mathlib.Core.List.{List, _++_}
+use mathlib.Core.Bool.{Bool, true, cond}
+use lib.ListN.{length, take, drop}
+use lib.Dec.{ltb, leb}
+use Rattle.machine.specs.State.{State}
+use Rattle.machine.specs.declared.Answer.{Answer}
+use Rattle.controller.specs.Controller.{stateOf}
+use Rattle.controller.specs.declared.Controller.{Controller}
+use Rattle.lines.specs.Lines.{lines}
+use Rattle.logline.specs.LogLine.{lineRoom}
+use Rattle.logline.specs.Wrote.{Wrote}
+use Rattle.log.specs.declared.Logged.{Logged}
+use Rattle.log.specs.declared.Logged.the-variants.{Written, NoRoom}
+use Rattle.log.specs.declared.Lined.{Lined}
+use Rattle.log.specs.declared.Ran.{Ran}
+use Rattle.log.specs.declared.Stream.{Stream}
+use Rattle.log.specs.declared.Streamed.{Streamed}
+use Rattle.log.specs.declared.Streaming.{Streaming}
+use Rattle.log.specs.Log.{Told, Fed, logOf, textTold, fedOf}
+
+-- the output has fewer than 40 bytes for each of so many lines
+unfoldable pub isShort : ℕ → List ℕ → Bool
+isShort most out = ltb (length out) (lineRoom * most)
+
+-- the log stands at the start of the output, and the bytes past it are as they were
+unfoldable pub withLog : List Answer → List ℕ → List ℕ
+withLog answers out = logOf answers ++ drop (length (logOf answers)) out
+
+-- a number of bytes that is answered is one that the output has
+unfoldable pub isWithin : Logged → List ℕ → Bool
+isWithin (Written n) out = leb n (length out)
+isWithin NoRoom out = true
+
+-- ---- a run
+
+-- state, memory and output after a run, and what it answers
+pub record Run : Type 0 where
+  pub state : State
+  pub memory : List ℕ
+  pub out : List ℕ
+  pub log : Logged
+
+-- too little room is an answer of its own: nothing is done, and no byte is written
+unfoldable pub runOf : State → ℕ → List ℕ → List ℕ → List ℕ → Run
+runOf st start memory text out =
+    let t = textTold st start memory text in
+    cond (isShort (length (lines text)) out)
+    (record { state = st; memory = memory; out = out; log = NoRoom })
+    (record { state = t .state; memory = t .memory; out = withLog (t .answers) out; log = Written (length (logOf (t .answers))) })
+
+-- what `run` promises; without room the controller comes back to the letter
+pub record RunPromised (c : Controller) (start : ℕ) (memory text out : List ℕ) (r : Ran) (memory′ out′ : List ℕ) : Type 0 where
+  pub ran : record { state = stateOf (r .controller); memory = memory′; out = out′; log = r .log } ≡ runOf (stateOf c) start memory text out
+  pub refused : isShort (length (lines text)) out ≡ true → r .controller ≡ c
+
+-- ---- a piece
+
+-- the kept bytes of the line that has not ended
+unfoldable pub begunOf : Stream → List ℕ
+begunOf s = take (s .len) (s .bytes)
+
+pub record Piece : Type 0 where
+  pub state : State
+  pub memory : List ℕ
+  pub begun : List ℕ
+  pub out : List ℕ
+  pub log : Logged
+
+-- A piece may end a line at each byte, so it wants room for as many.
+unfoldable pub pieceOf : State → ℕ → List ℕ → List ℕ → List ℕ → List ℕ → Piece
+pieceOf st start memory begun piece out =
+    let f = fedOf st start memory begun piece in
+    cond (isShort (length piece) out)
+    (record { state = st; memory = memory; begun = begun; out = out; log = NoRoom })
+    (record { state = f .state; memory = f .memory; begun = f .begun; out = withLog (f .answers) out; log = Written (length (logOf (f .answers))) })
+
+-- what `feed` promises; without room the stream comes back to the letter
+pub record FeedPromised (s : Stream) (start : ℕ) (memory piece out : List ℕ) (r : Streamed) (memory′ out′ : List ℕ) : Type 0 where
+  pub fed : record { state = stateOf (r .stream .controller); memory = memory′; begun = begunOf (r .stream); out = out′; log = r .log } ≡ pieceOf (stateOf (s .controller)) start memory (begunOf s) piece out
+  pub refused : isShort (length piece) out ≡ true → r .stream ≡ s
+
+-- ---- inside: lines and pieces with room for them
+
+pub record Leaves (t : Told) (r : Lined) (memory′ out : List ℕ) (at : ℕ) (out′ : List ℕ) : Type 0 where
+  pub state : stateOf (r .controller) ≡ t .state
+  pub memory : memory′ ≡ t .memory
+  pub log : Wrote out at (logOf (t .answers)) (r .next) out′
+
+pub record Feeds (f : Fed) (r : Streaming) (memory′ out out′ : List ℕ) : Type 0 where
+  pub state : stateOf (r .stream .controller) ≡ f .state
+  pub memory : memory′ ≡ f .memory
+  pub begun : begunOf (r .stream) ≡ f .begun
+  pub log : Wrote out 0 (logOf (f .answers)) (r .next) out′

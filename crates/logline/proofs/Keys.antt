@@ -1,0 +1,102 @@
+-- No two labels are alike, and the digits of a log line are the whole answer.
+use Prim.Native.Nat.{ℕ, zero, suc, _+_, _≤_, _<_, _^_}
+use mathlib.Core.Path.{_≡_, refl, sym, ap, _∙_}
+use mathlib.Core.Bool.{Bool, true, false, cond, _&&_}
+use mathlib.Core.List.{List, [], _∷_, _++_, append-assoc}
+use native.Mathlib.Omega.{arith}
+use lib.Dec.{eqb, lit<}
+use borrow.Author.Tests.{eqb-true, eq-eqb}
+use lib.ListN.{length, take, drop, length-append}
+use lib.Seq.{take-append-seam, drop-append-seam}
+use Rattle.machine.specs.declared.Answer.{Answer}
+use Rattle.hex.specs.Hex.{bytes, digits, number}
+use Rattle.hex.proofs.Below.{below, below-at}
+use Rattle.hex.proofs.Numbers.{length-digits, number-digits}
+use Rattle.logline.specs.Labels.{labels, labelOf}
+use Rattle.logline.specs.LogLine.{numbers, logLine}
+use Rattle.logline.specs.Promises.{Fits, LabelsDiffer, NumbersAreKey}
+
+-- ---- labels, by a test of every pair
+
+same : List ℕ → List ℕ → Bool
+same [] [] = true
+same [] (y ∷ ys) = false
+same (x ∷ xs) [] = false
+same (x ∷ xs) (y ∷ ys) = eqb x y && same xs ys
+
+same-self : (xs : List ℕ) → same xs xs ≡ true
+unfolding same
+same-self [] = refl
+same-self (x ∷ xs) = rw (eq-eqb x x refl) (same-self xs)
+
+-- alike only if they are of one code
+alone : ℕ → ℕ → Bool
+alone code other = cond (same (labelOf code) (labelOf other)) (eqb code other) true
+
+all-alone : below (λ code. below (λ other. alone code other) 15) 15 ≡ true
+unfolding labelOf labels same alone
+all-alone = refl
+
+pub labels-differ : LabelsDiffer
+unfolding alone
+labels-differ code other h k e =
+    let row = below-at (λ c. below (λ o. alone c o) 15) 15 code all-alone h in
+    let one = below-at (λ o. alone code o) 15 other row k in
+    let like : same (labelOf code) (labelOf other) ≡ true = rw (← e) (same-self (labelOf code)) in
+    eqb-true code other (rw like at one)
+
+-- ---- digits
+
+module _ (xs ys zs ws : List ℕ) (n : length xs ≡ length zs) (e : (xs ++ ys) ≡ (zs ++ ws)) where
+  heads : xs ≡ zs
+  heads = sym (take-append-seam xs ys) ∙ rw (e, n) (take-append-seam zs ws)
+
+  tails : ys ≡ ws
+  tails = sym (drop-append-seam xs ys) ∙ rw (e, n) (drop-append-seam zs ws)
+
+one : (n x y : ℕ) → x < 16 ^ n → y < 16 ^ n → digits n x ≡ digits n y → x ≡ y
+one n x y h k e = sym (number-digits n x h) ∙ ap number e ∙ number-digits n y k
+
+flag : (s t : Bool) → digits 1 (cond s 1 0) ≡ digits 1 (cond t 1 0) → s ≡ t
+flag true true e = refl
+flag true false e = absurd (let z = one 1 1 0 (lit< tt) (lit< tt) e in omega arith)
+flag false true e = absurd (let z = one 1 0 1 (lit< tt) (lit< tt) e in omega arith)
+flag false false e = refl
+
+pub length-numbers : (a : Answer) → length (numbers a) ≡ 20
+unfolding numbers
+length-numbers a = simp (length-append, length-digits)
+
+first-20 : (a : Answer) → take 20 (logLine a) ≡ numbers a
+unfolding logLine
+first-20 a =
+    let n : length (numbers a) ≡ 20 = length-numbers a in
+    rw (append-assoc (numbers a ++ bytes " "), append-assoc (numbers a), ← n) (take-append-seam (numbers a) _)
+
+pub numbers-are-key : NumbersAreKey
+unfolding numbers
+numbers-are-key a b f g e =
+    let all = sym (first-20 a) ∙ e ∙ first-20 b in
+    let c = digits 2 (a .code) in
+    let c′ = digits 2 (b .code) in
+    let d = c ++ digits 8 (a .address) in
+    let d′ = c′ ++ digits 8 (b .address) in
+    let v = d ++ digits 8 (a .value) in
+    let v′ = d′ ++ digits 8 (b .value) in
+    let n = v ++ digits 1 (a .enables) in
+    let n′ = v′ ++ digits 1 (b .enables) in
+    let l = digits 1 (cond (a .line) 1 0) in
+    let l′ = digits 1 (cond (b .line) 1 0) in
+    let n-long : length n ≡ length n′ = simp (length-append, length-digits) in
+    let v-long : length v ≡ length v′ = simp (length-append, length-digits) in
+    let d-long : length d ≡ length d′ = simp (length-append, length-digits) in
+    let c-long : length c ≡ length c′ = simp (length-digits) in
+    let n-same : n ≡ n′ = heads n l n′ l′ n-long all in
+    let v-same : v ≡ v′ = heads v (digits 1 (a .enables)) v′ (digits 1 (b .enables)) v-long n-same in
+    let d-same : d ≡ d′ = heads d (digits 8 (a .value)) d′ (digits 8 (b .value)) d-long v-same in
+    let code = one 2 (a .code) (b .code) (f .code) (g .code) (heads c (digits 8 (a .address)) c′ (digits 8 (b .address)) c-long d-same) in
+    let address = one 8 (a .address) (b .address) (f .address) (g .address) (tails c (digits 8 (a .address)) c′ (digits 8 (b .address)) c-long d-same) in
+    let value = one 8 (a .value) (b .value) (f .value) (g .value) (tails d (digits 8 (a .value)) d′ (digits 8 (b .value)) d-long v-same) in
+    let enables = one 1 (a .enables) (b .enables) (f .enables) (g .enables) (tails v (digits 1 (a .enables)) v′ (digits 1 (b .enables)) v-long n-same) in
+    let line = flag (a .line) (b .line) (tails n l n′ l′ n-long all) in
+    λ i. record { code = code i; address = address i; value = value i; enables = enables i; line = line i }

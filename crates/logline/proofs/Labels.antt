@@ -1,0 +1,48 @@
+-- The labels as the tables have them, and what is promised of them.
+use Prim.Native.Nat.{ℕ, zero, suc, _+_, _≤_, _<_, zero-le}
+use mathlib.Core.Path.{_≡_, refl, sym, ap, _∙_, subst}
+use mathlib.Core.List.{List, [], _∷_, _++_, map}
+use mathlib.Core.Bool.{Bool, true, false, cond}
+use lib.Dec.{leb}
+use native.Mathlib.Omega.{arith}
+use borrow.Author.Tests.{leb-true}
+use lib.ListN.{length, getD, take, length-append, List·getD-eq-default}
+use Rattle.hex.proofs.Numbers.{length-digits}
+use Rattle.machine.specs.declared.Answer.{Answer}
+use Rattle.logline.specs.Wrote.{Wrote}
+use Rattle.logline.specs.Labels.{labels, labelOf}
+use Rattle.logline.specs.LogLine.{numbers, logLine}
+use Rattle.logline.specs.Promises.{LabelsShort, LineFits}
+use Rattle.logline.proofs.Padded.{pad, padded-at}
+
+-- the bytes that stand for a label, as the tables have them
+pub written : {out after : List ℕ} {at r : ℕ} (code : ℕ) → Wrote out at (take (getD (map length labels) code 0) (getD (map pad labels) code [])) r after → Wrote out at (labelOf code) r after
+unfolding labelOf
+written {out} {after} {at} {r} code w = subst (λ (b : List ℕ). Wrote out at b r after) (padded-at labels code) w
+
+pub past : (code : ℕ) → 15 ≤ code → labelOf code ≡ []
+unfolding labelOf labels
+past code h = List·getD-eq-default labels [] h
+
+-- a test of the whole table, and what it says of one
+short : List (List ℕ) → Bool
+short [] = true
+short (l ∷ ls) = cond (leb (length l) 18) (short ls) false
+
+both : (a b : Bool) → cond a b false ≡ true → (a ≡ true) × (b ≡ true)
+both true b e = (refl, e)
+both false b e = let z : false ≡ true = e in (z, cc)
+
+short-at : (ls : List (List ℕ)) → short ls ≡ true → (n : ℕ) → length (getD ls n []) ≤ 18
+unfolding short
+short-at [] e n = zero-le
+short-at (l ∷ ls) e zero = leb-true (length l) 18 (both (leb (length l) 18) (short ls) e .0)
+short-at (l ∷ ls) e (suc n) = short-at ls (both (leb (length l) 18) (short ls) e .1) n
+
+pub labels-short : LabelsShort
+unfolding labelOf labels short
+labels-short code = short-at labels refl code
+
+pub line-fits : LineFits
+unfolding numbers logLine
+line-fits a = simp (length-append, length-digits) (omega (arith, labels-short (a .code)))

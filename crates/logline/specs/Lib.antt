@@ -1,0 +1,4 @@
+pub mod Wrote
+pub mod Labels
+pub mod LogLine
+pub mod Promises

@@ -1,0 +1,25 @@
+-- The log line of an answer.
+use Prim.Native.Nat.{ℕ, _+_}
+use mathlib.Core.List.{List, [], _++_}
+use mathlib.Core.Bool.{cond}
+use lib.ListN.{length}
+use lib.Dec.{leb}
+use Rattle.machine.specs.declared.Answer.{Answer}
+use Rattle.hex.specs.Hex.{bytes, digits}
+use Rattle.logline.specs.Labels.{labelOf}
+
+-- "code 2, address 8, data 8, enables 1, interrupt line 1"
+unfoldable pub numbers : Answer → List ℕ
+numbers a = digits 2 (a .code) ++ digits 8 (a .address) ++ digits 8 (a .value) ++ digits 1 (a .enables) ++ digits 1 (cond (a .line) 1 0)
+
+-- "then one space, the label of the code as fixed bytes, and LF"
+unfoldable pub logLine : Answer → List ℕ
+logLine a = numbers a ++ bytes " " ++ labelOf (a .code) ++ bytes "\n"
+
+-- "40 bytes for each input line": the most that a log line has
+abbrev pub lineRoom : ℕ
+lineRoom = 40
+
+-- the log line where there is room for any, from a place on, and nothing where there isn't
+unfoldable pub lineIn : List ℕ → ℕ → Answer → List ℕ
+lineIn out at a = cond (leb (at + lineRoom) (length out)) (logLine a) []

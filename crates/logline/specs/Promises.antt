@@ -1,0 +1,32 @@
+-- What is promised of labels and log lines.
+use Prim.Native.Nat.{ℕ, _≤_, _<_, _^_}
+use mathlib.Core.Path.{_≡_}
+use mathlib.Core.List.{List, _++_}
+use lib.ListN.{length, take}
+use Rattle.machine.specs.declared.Answer.{Answer}
+use Rattle.hex.specs.Hex.{bytes}
+use Rattle.logline.specs.Labels.{labelOf}
+use Rattle.logline.specs.LogLine.{numbers, logLine, lineRoom}
+
+-- `labels-short`: no label is above 18 bytes
+abbrev pub LabelsShort : Type 0
+LabelsShort = (code : ℕ) → length (labelOf code) ≤ 18
+
+-- `labels-differ`: no two of the fifteen are alike
+abbrev pub LabelsDiffer : Type 0
+LabelsDiffer = (code other : ℕ) → code < 15 → other < 15 → labelOf code ≡ labelOf other → code ≡ other
+
+-- `line-fits`: 40 bytes are enough for any log line
+abbrev pub LineFits : Type 0
+LineFits = (a : Answer) → length (logLine a) ≤ lineRoom
+
+-- the numbers of an answer have no more digits than the log gives them
+pub record Fits (a : Answer) : Type 0 where
+  pub code : a .code < 16 ^ 2
+  pub address : a .address < 16 ^ 8
+  pub value : a .value < 16 ^ 8
+  pub enables : a .enables < 16 ^ 1
+
+-- `numbers-are-key`: the 20 digits before the label are the whole answer; nothing is told by the label alone
+abbrev pub NumbersAreKey : Type 0
+NumbersAreKey = (a b : Answer) → Fits a → Fits b → take 20 (logLine a) ≡ take 20 (logLine b) → a ≡ b

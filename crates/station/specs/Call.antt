@@ -1,0 +1,38 @@
+-- "The station service is written in C and calls the same run on an input and an output byte slice": what the call returns and leaves in the output.
+use Prim.Native.Nat.{ℕ}
+use mathlib.Core.Path.{_≡_}
+use mathlib.Core.List.{List}
+use mathlib.Core.Bool.{Bool, cond}
+use lib.IntN.{ℤ, pos, negsuc}
+use lib.ListN.{length, replicate}
+use lib.Dec.{ltb}
+use Rattle.machine.specs.State.{resetState}
+use Rattle.log.specs.declared.Logged.{Logged}
+use Rattle.log.specs.declared.Logged.the-variants.{Written, NoRoom}
+use Rattle.log.specs.Results.{Run, runOf}
+
+-- "from reset, with 4,096 zero words of memory at address 0"
+unfoldable pub fromReset : List ℕ → List ℕ → Run
+fromReset input output = runOf resetState 0 (replicate 4096 0) input output
+
+-- "if the input exceeds 1,048,576 bytes"
+unfoldable pub isTooLong : List ℕ → Bool
+isTooLong input = ltb 1_048_576 (length input)
+
+-- the number of each case of the run's answer: the log's bytes, or -1, which is `negsuc 0`
+unfoldable pub numberOf : Logged → ℤ
+numberOf (Written n) = pos n
+numberOf NoRoom = negsuc 0
+
+-- -2, which is `negsuc 1`, comes first
+unfoldable pub resultOf : List ℕ → List ℕ → ℤ
+resultOf input output = cond (isTooLong input) (negsuc 1) (numberOf (fromReset input output .log))
+
+-- no byte is written where it refuses, and none past the log
+unfoldable pub outputOf : List ℕ → List ℕ → List ℕ
+outputOf input output = cond (isTooLong input) output (fromReset input output .out)
+
+-- what `s5933_log` promises of its result and of the output at exit
+pub record CallPromised (input output : List ℕ) (r : ℤ) (after : List ℕ) : Type 0 where
+  pub result : r ≡ resultOf input output
+  pub written : after ≡ outputOf input output
