@@ -2,3 +2,8 @@ pub mod Told
 pub mod Room
 pub mod Carried
 pub mod Within
+pub mod Worked
+pub mod Bodies
+pub mod Texts
+pub mod Pieces
+pub mod Unique

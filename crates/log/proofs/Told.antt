@@ -11,7 +11,7 @@ use Rattle.machine.specs.State.{State}
 use Rattle.machine.specs.declared.Answer.{Answer}
 use Rattle.logline.specs.LogLine.{logLine, lineRoom}
 use Rattle.logline.proofs.Labels.{line-fits}
-use Rattle.log.specs.Log.{lineOutcome, logOf, Told, toldOf}
+use Rattle.log.specs.Log.{lineOutcome, logOf, Told, toldOf, after}
 
 pub log-append : (xs ys : List Answer) → logOf (xs ++ ys) ≡ logOf xs ++ logOf ys
 unfolding logOf
@@ -26,10 +26,6 @@ pub log-length : (xs : List Answer) → length (logOf xs) ≤ lineRoom * length 
 unfolding logOf
 log-length [] = zero-le
 log-length (a ∷ xs) = rw length-append (omega (arith, line-fits a, log-length xs))
-
--- answers before those of t
-abbrev pub after : List Answer → Told → Told
-after done t = record { state = t .state; memory = t .memory; answers = done ++ t .answers }
 
 pub told-length : (st : State) (start : ℕ) (memory : List ℕ) (ls : List (List ℕ)) → length (toldOf st start memory ls .answers) ≡ length ls
 unfolding toldOf

@@ -1,3 +1,4 @@
 pub mod Log
 pub mod Results
 pub mod Promises
+pub mod Unique

@@ -36,6 +36,10 @@ toldOf st start memory (line ∷ more) =
     let t = toldOf (o .state) start (o .memory) more in
     record { state = t .state; memory = t .memory; answers = o .answer ∷ t .answers }
 
+-- answers, then what t tells
+abbrev pub after : List Answer → Told → Told
+after answers t = record { state = t .state; memory = t .memory; answers = answers ++ t .answers }
+
 -- a text is told line by line
 abbrev pub textTold : State → ℕ → List ℕ → List ℕ → Told
 textTold st start memory text = toldOf st start memory (lines text)

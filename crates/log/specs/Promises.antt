@@ -1,1 +1,115 @@
--- What is promised of the log.
+-- What is promised of the log of a text.
+use Prim.Native.Nat.{ℕ}
+use mathlib.Core.Path.{_≡_}
+use mathlib.Core.List.{List, [], _∷_, _++_, map}
+use lib.ListN.{length, replicate}
+use Rattle.machine.specs.State.{State, resetState}
+use Rattle.machine.specs.Event.{Event}
+use Rattle.machine.specs.Run.{Ran, run}
+use Rattle.machine.specs.declared.Step.{Step}
+use Rattle.machine.specs.declared.Answer.{Answer}
+use Rattle.hex.specs.Hex.{bytes}
+use Rattle.lines.specs.Lines.{lf, lines}
+use Rattle.frame.specs.declared.Framed.{Framed}
+use Rattle.frame.specs.declared.Framed.the-variants.{Frame, NotAFrame}
+use Rattle.frame.specs.Frame.{frameOf}
+use Rattle.logline.specs.LogLine.{logBody}
+use Rattle.log.specs.Log.{logOf, Told, toldOf, after, textTold, fedOf}
+
+-- ---- one log line for each line
+
+-- `one-answer-each`: a text has one answer for each line
+abbrev pub OneAnswerEach : Type 0
+OneAnswerEach = (st : State) (start : ℕ) (memory text : List ℕ) → length (textTold st start memory text .answers) ≡ length (lines text)
+
+-- `one-line-each`: the log, read as a text, has one line for each answer, and that line is the answer's
+abbrev pub OneLineEach : Type 0
+OneLineEach = (answers : List Answer) → lines (logOf answers) ≡ map logBody answers
+
+-- ---- texts joined, and a text in pieces
+
+-- `texts-joined`: the log of two texts joined after an LF is that of the first, then that of the second from the state the first leaves
+pub record Joined (whole first second : Told) : Type 0 where
+  pub state : whole .state ≡ second .state
+  pub memory : whole .memory ≡ second .memory
+  pub log : logOf (whole .answers) ≡ logOf (first .answers) ++ logOf (second .answers)
+
+abbrev pub TextsJoined : Type 0
+TextsJoined =
+    (st : State) (start : ℕ) (memory a b : List ℕ) (first : Told) → first ≡ textTold st start memory (a ++ (lf ∷ []))
+    → Joined (textTold st start memory (a ++ (lf ∷ []) ++ b)) first (textTold (first .state) start (first .memory) b)
+
+-- pieces one after the other
+abbrev pub joined : List (List ℕ) → List ℕ
+joined [] = []
+joined (p ∷ more) = p ++ joined more
+
+-- what pieces tell, after the bytes `begun`: each is fed, and at the end what has begun is told as a text
+unfoldable pub piecesTold : State → ℕ → List ℕ → List ℕ → List (List ℕ) → Told
+piecesTold st start memory begun [] = textTold st start memory begun
+piecesTold st start memory begun (p ∷ more) =
+    let f = fedOf st start memory begun p in
+    after (f .answers) (piecesTold (f .state) start (f .memory) (f .begun) more)
+
+-- `pieces-joined`: wherever the pieces end, they tell what the whole text tells, so their logs joined are its log
+abbrev pub PiecesJoined : Type 0
+PiecesJoined = (st : State) (start : ℕ) (memory : List ℕ) (pieces : List (List ℕ)) → piecesTold st start memory [] pieces ≡ textTold st start memory (joined pieces)
+
+-- ---- a text is a run of its steps
+
+-- the steps of the lines that are frames
+abbrev pub framed : Framed → List Step
+framed (Frame s) = s ∷ []
+framed NotAFrame = []
+
+unfoldable pub stepsIn : List (List ℕ) → List Step
+stepsIn [] = []
+stepsIn (line ∷ more) = framed (frameOf line) ++ stepsIn more
+
+-- the answers to those lines
+abbrev pub toFrame : Framed → Answer → List Answer
+toFrame (Frame s) a = a ∷ []
+toFrame NotAFrame a = []
+
+unfoldable pub toFrames : List (List ℕ) → List Answer → List Answer
+toFrames [] answers = []
+toFrames (line ∷ more) [] = []
+toFrames (line ∷ more) (a ∷ answers) = toFrame (frameOf line) a ++ toFrames more answers
+
+-- `text-runs`: what a text leaves, and its steps' answers, are those of the machine's run over its steps: so every theorem of runs is one of texts
+pub record Runs (ls : List (List ℕ)) (t : Told) (r : Ran) : Type 0 where
+  pub state : t .state ≡ r .state
+  pub memory : t .memory ≡ r .memory
+  pub answers : toFrames ls (t .answers) ≡ map (λ (v : Event). v .answer) (r .events)
+
+abbrev pub TextRuns : Type 0
+TextRuns = (st : State) (start : ℕ) (memory : List ℕ) (ls : List (List ℕ)) → Runs ls (toldOf st start memory ls) (run st start memory (stepsIn ls))
+
+-- ---- the worked frames
+
+-- the log of a text as the log program has it: "from reset, with 4,096 zero words of memory at address 0"
+unfoldable pub programLog : List ℕ → List ℕ
+programLog text = logOf (textTold resetState 0 (replicate 4096 0) text .answers)
+
+abbrev pub workedFrames : List ℕ
+workedFrames = bytes "03101000000A5\n0034F00000000\n0010100000000\n0020F00000000\nxyz"
+
+abbrev pub workedLog : List ℕ
+workedLog = bytes "00000000000000000000 done\n00000000000001000000 done\n0000000000000000A500 done\n08000000000000000000 FIFO full or empty\n0E000000000000000000 not a frame line\n"
+
+-- `worked-hold`
+abbrev pub WorkedHold : Type 0
+WorkedHold = programLog workedFrames ≡ workedLog
+
+-- "One that handles the first frame and only echoes the rest"
+abbrev pub echo : List (List ℕ) → List ℕ
+echo [] = []
+echo (line ∷ more) = line ++ (lf ∷ []) ++ echo more
+
+abbrev pub firstOnly : List (List ℕ) → List ℕ
+firstOnly [] = []
+firstOnly (line ∷ more) = logOf (toldOf resetState 0 (replicate 4096 0) (line ∷ []) .answers) ++ echo more
+
+-- `echoing-fails`: it fails the worked frames
+abbrev pub EchoingFails : Type 0
+EchoingFails = firstOnly (lines workedFrames) ≡ workedLog → ⊥

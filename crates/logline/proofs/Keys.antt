@@ -13,7 +13,7 @@ use Rattle.hex.specs.Hex.{bytes, digits, number}
 use Rattle.hex.proofs.Below.{below, below-at}
 use Rattle.hex.proofs.Numbers.{length-digits, number-digits}
 use Rattle.logline.specs.Labels.{labels, labelOf}
-use Rattle.logline.specs.LogLine.{numbers, logLine}
+use Rattle.logline.specs.LogLine.{numbers, logBody, logLine}
 use Rattle.logline.specs.Promises.{Fits, LabelsDiffer, NumbersAreKey}
 
 -- ---- labels, by a test of every pair
@@ -68,7 +68,7 @@ unfolding numbers
 length-numbers a = simp (length-append, length-digits)
 
 first-20 : (a : Answer) → take 20 (logLine a) ≡ numbers a
-unfolding logLine
+unfolding logBody logLine
 first-20 a =
     let n : length (numbers a) ≡ 20 = length-numbers a in
     rw (append-assoc (numbers a ++ bytes " "), append-assoc (numbers a), ← n) (take-append-seam (numbers a) _)

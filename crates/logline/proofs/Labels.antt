@@ -11,7 +11,7 @@ use Rattle.hex.proofs.Numbers.{length-digits}
 use Rattle.machine.specs.declared.Answer.{Answer}
 use Rattle.logline.specs.Wrote.{Wrote}
 use Rattle.logline.specs.Labels.{labels, labelOf}
-use Rattle.logline.specs.LogLine.{numbers, logLine}
+use Rattle.logline.specs.LogLine.{numbers, logBody, logLine}
 use Rattle.logline.specs.Promises.{LabelsShort, LineFits}
 use Rattle.logline.proofs.Padded.{pad, padded-at}
 
@@ -44,5 +44,5 @@ unfolding labelOf labels short
 labels-short code = short-at labels refl code
 
 pub line-fits : LineFits
-unfolding numbers logLine
+unfolding numbers logBody logLine
 line-fits a = simp (length-append, length-digits) (omega (arith, labels-short (a .code)))

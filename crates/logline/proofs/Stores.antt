@@ -9,6 +9,7 @@ use native.Mathlib.Omega.{arith}
 use lib.ListN.{length, getD, drop, set, drop-of-length-le, length-append}
 use lib.Seq.{sets, set-comm, drop-cons, length-sets}
 use Rattle.logline.specs.Wrote.{Wrote}
+use Rattle.logline.specs.Promises.{WroteUnique}
 
 -- `bs` are stored where `xs` end
 pub sets-append : (l : List ℕ) (i : ℕ) (xs bs : List ℕ) → sets (sets l i xs) (i + length xs) bs ≡ sets l i (xs ++ bs)
@@ -45,3 +46,6 @@ wrote-then {out} {out′} {out″} {at} {r} {r′} {xs} {ys} v w =
 
 pub wrote-length : {out out′ : List ℕ} {at r : ℕ} {xs : List ℕ} → Wrote out at xs r out′ → length out′ ≡ length out
 wrote-length {out} {at = at} {xs = xs} w = ap length (w .over) ∙ length-sets out at xs
+
+pub wrote-unique : WroteUnique
+wrote-unique out at written r q after also v w = (v .next ∙ sym (w .next), v .over ∙ sym (w .over))

@@ -12,9 +12,13 @@ use Rattle.logline.specs.Labels.{labelOf}
 unfoldable pub numbers : Answer → List ℕ
 numbers a = digits 2 (a .code) ++ digits 8 (a .address) ++ digits 8 (a .value) ++ digits 1 (a .enables) ++ digits 1 (cond (a .line) 1 0)
 
--- "then one space, the label of the code as fixed bytes, and LF"
+-- "then one space, the label of the code as fixed bytes"
+unfoldable pub logBody : Answer → List ℕ
+logBody a = numbers a ++ bytes " " ++ labelOf (a .code)
+
+-- "and LF"
 unfoldable pub logLine : Answer → List ℕ
-logLine a = numbers a ++ bytes " " ++ labelOf (a .code) ++ bytes "\n"
+logLine a = logBody a ++ bytes "\n"
 
 -- "40 bytes for each input line": the most that a log line has
 abbrev pub lineRoom : ℕ

@@ -5,6 +5,7 @@ use mathlib.Core.List.{List, _++_}
 use lib.ListN.{length, take}
 use Rattle.machine.specs.declared.Answer.{Answer}
 use Rattle.hex.specs.Hex.{bytes}
+use Rattle.logline.specs.Wrote.{Wrote}
 use Rattle.logline.specs.Labels.{labelOf}
 use Rattle.logline.specs.LogLine.{numbers, logLine, lineRoom}
 
@@ -30,3 +31,7 @@ pub record Fits (a : Answer) : Type 0 where
 -- `numbers-are-key`: the 20 digits before the label are the whole answer; nothing is told by the label alone
 abbrev pub NumbersAreKey : Type 0
 NumbersAreKey = (a b : Answer) → Fits a → Fits b → take 20 (logLine a) ≡ take 20 (logLine b) → a ≡ b
+
+-- `wrote-unique`: two results that meet one contract of writing are the same, and so are the outputs
+abbrev pub WroteUnique : Type 0
+WroteUnique = (out : List ℕ) (at : ℕ) (written : List ℕ) (r q : ℕ) (after also : List ℕ) → Wrote out at written r after → Wrote out at written q also → (r ≡ q) × (after ≡ also)

@@ -1,7 +1,7 @@
 -- "The station service is written in C and calls the same run on an input and an output byte slice": what the call returns and leaves in the output.
 use Prim.Native.Nat.{ℕ}
 use mathlib.Core.Path.{_≡_}
-use mathlib.Core.List.{List}
+use mathlib.Core.List.{List, []}
 use mathlib.Core.Bool.{Bool, cond}
 use lib.IntN.{ℤ, pos, negsuc}
 use lib.ListN.{length, replicate}
@@ -36,3 +36,11 @@ outputOf input output = cond (isTooLong input) output (fromReset input output .o
 pub record CallPromised (input output : List ℕ) (r : ℤ) (after : List ℕ) : Type 0 where
   pub result : r ≡ resultOf input output
   pub written : after ≡ outputOf input output
+
+-- `call-unique`: two results that meet it are the same, and so are the outputs
+abbrev pub CallUnique : Type 0
+CallUnique = (input output : List ℕ) (r q : ℤ) (after also : List ℕ) → CallPromised input output r after → CallPromised input output q also → (r ≡ q) × (after ≡ also)
+
+-- `empty-call`: "Empty input gives 0", and no byte is written
+abbrev pub EmptyCall : Type 0
+EmptyCall = (output : List ℕ) → (resultOf [] output ≡ pos 0) × (outputOf [] output ≡ output)

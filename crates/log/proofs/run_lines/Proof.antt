@@ -12,8 +12,8 @@ use Rattle.lines.proofs.Lines.{lines-more, lines-none, past-is}
 use Rattle.logline.specs.LogLine.{lineRoom}
 use Rattle.logline.specs.Wrote.{Wrote}
 use Rattle.logline.proofs.Stores.{wrote-none, wrote-then}
-use Rattle.log.specs.Log.{logOf, Told, toldOf, textTold}
-use Rattle.log.proofs.Told.{log-append, after, told-turn, told-none, one-answer}
+use Rattle.log.specs.Log.{logOf, toldOf, after, textTold}
+use Rattle.log.proofs.Told.{log-append, told-turn, told-none, one-answer}
 use borrow.Author.Needs.{needs}
 use Rattle.log.proofs.run_lines.Statement.{statement}
 use Rattle.log.proofs.run_lines.Tie as tie

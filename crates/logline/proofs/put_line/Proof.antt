@@ -3,7 +3,7 @@ use lib.ListN.{length}
 use denote.Ref.{now}
 use native.Mathlib.Omega.{arith}
 use lib.ListN.{length-set}
-use Rattle.logline.specs.LogLine.{logLine}
+use Rattle.logline.specs.LogLine.{logBody, logLine}
 use Rattle.logline.proofs.Stores.{wrote-none, wrote-one, wrote-then, wrote-length}
 use Rattle.logline.proofs.Labels.{labels-short}
 use Rattle.logline.proofs.Room.{in-room, no-room}
@@ -52,7 +52,7 @@ add-result c =
     record { fits = omega (arith, label-leaves c, l .put-label .kept .0, length-set (n .put-numbers .last .0) (n .put-numbers .result) 32, n .put-numbers .kept .0, e .before .before .before .good) }
 
 returns-3 : tie.Need-returns-3
-unfolding logLine
+unfolding logBody logLine
 returns-3 c =
     let l = c .before .before in
     let n = l .before .before .before .before in

@@ -1,0 +1,28 @@
+-- Two results that meet one contract are the same.
+use mathlib.Core.Path.{_≡_, sym, _∙_, ap}
+use Rattle.controller.specs.Controller.{stateOf}
+use Rattle.log.specs.Results.{Run, Piece, begunOf}
+use Rattle.log.specs.Unique.{RunUnique, FeedUnique}
+
+pub run-unique : RunUnique
+run-unique c start memory text out r q memory′ memory″ out′ out″ p o =
+    let same = p .ran ∙ sym (o .ran) in
+    record {
+      state = ap (λ (v : Run). v .state) same;
+      log = ap (λ (v : Run). v .log) same;
+      stored = ap (λ (v : Run). v .memory) same;
+      written = ap (λ (v : Run). v .out) same;
+      refused = λ e. p .refused e ∙ sym (o .refused e);
+    }
+
+pub feed-unique : FeedUnique
+feed-unique s start memory piece out r q memory′ memory″ out′ out″ p o =
+    let same = p .fed ∙ sym (o .fed) in
+    record {
+      state = ap (λ (v : Piece). v .state) same;
+      begun = ap (λ (v : Piece). v .begun) same;
+      log = ap (λ (v : Piece). v .log) same;
+      stored = ap (λ (v : Piece). v .memory) same;
+      written = ap (λ (v : Piece). v .out) same;
+      refused = λ e. p .refused e ∙ sym (o .refused e);
+    }
