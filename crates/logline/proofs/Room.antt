@@ -1,11 +1,14 @@
 -- The line that is written, by whether there is room for it.
-use Prim.Native.Nat.{ℕ, _+_, _≤_, _<_}
+use Prim.Native.Nat.{ℕ, _+_, _≤_, _<_, zero-le}
 use mathlib.Core.Path.{_≡_}
 use mathlib.Core.List.{List, []}
+use mathlib.Core.Bool.{Bool, true, false, cond}
 use borrow.Author.Tests.{le-leb, lt-leb}
 use lib.ListN.{length}
+use lib.Dec.{leb}
 use Rattle.machine.specs.declared.Answer.{Answer}
 use Rattle.logline.specs.LogLine.{logLine, lineRoom, lineIn}
+use Rattle.logline.proofs.Labels.{line-fits}
 
 module _ (out : List ℕ) (at : ℕ) (a : Answer) where
   pub in-room : at + lineRoom ≤ length out → lineIn out at a ≡ logLine a
@@ -15,3 +18,11 @@ module _ (out : List ℕ) (at : ℕ) (a : Answer) where
   pub no-room : length out < at + lineRoom → lineIn out at a ≡ []
   unfolding lineIn
   no-room h = simp (lt-leb _ _ h)
+
+  fits-by : (t : Bool) → length (cond t (logLine a) []) ≤ lineRoom
+  fits-by true = line-fits a
+  fits-by false = zero-le
+
+  pub line-in-fits : length (lineIn out at a) ≤ lineRoom
+  unfolding lineIn
+  line-in-fits = fits-by (leb (at + lineRoom) (length out))
