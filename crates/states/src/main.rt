@@ -1,0 +1,211 @@
+// States, windows and numbers that frames cannot reach. Each line of standard input is a case in 40 numbers of 8 hexadecimal
+// digits: the state, the window and the step; see `tests/second/cases`. For each it writes the log line of the step, and a
+// line of numbers: the state left, and the first word of memory that the step changed, if any.
+use controller::ByteCount;
+use controller::Controller;
+use controller::Lane;
+use fifo::Fifo;
+use fifo::WordFill;
+use libc::STDIN_FILENO;
+use libc::STDOUT_FILENO;
+use machine::Answer;
+use machine::Step;
+
+// Number k of a case.
+fn field(line: &[u8], k: usize) -> u32 {
+    let mut n: u32 = 0;
+    let mut i = 0;
+    while i < 8 {
+        let at = k % 64 * 8 + i;
+        if at < line.len() {
+            n = n % 0x1000_0000 * 16 + (hex::digit_number(line[at]) % 16) as u32;
+        }
+        i += 1;
+    }
+    n
+}
+
+fn fields(line: &[u8], k: usize) -> [u32; 8] {
+    let j = k % 64;
+    [
+        field(line, j),
+        field(line, j + 1),
+        field(line, j + 2),
+        field(line, j + 3),
+        field(line, j + 4),
+        field(line, j + 5),
+        field(line, j + 6),
+        field(line, j + 7),
+    ]
+}
+
+// A lane from number k on: fill, eight words, address, count.
+fn lane(line: &[u8], k: usize) -> Lane {
+    let j = k % 64;
+    let words = fields(line, j + 1);
+    let fifo = Fifo {
+        words,
+        head: 0,
+        fill: WordFill(field(line, j)),
+    };
+    Lane {
+        fifo,
+        address: field(line, j + 9),
+        count: ByteCount(field(line, j + 10)),
+    }
+}
+
+fn controller(line: &[u8]) -> Controller {
+    let mail = fields(line, 0);
+    let from_pci = lane(line, 9);
+    let from_addon = lane(line, 20);
+    Controller {
+        mail,
+        marks: field(line, 8),
+        from_pci,
+        from_addon,
+        intcsr: field(line, 31),
+        mcsr: field(line, 32),
+    }
+}
+
+// Memory word i is base + i.
+fn filled(memory: &mut [u32], base: u32) {
+    let mut i = 0;
+    let mut word = base;
+    while i < memory.len() {
+        memory[i] = word;
+        word = std::num::wrapping_add_u32(word, 1);
+        i += 1;
+    }
+}
+
+// The place of the first word that is not base + i, or the length.
+fn changed(memory: &[u32], base: u32) -> usize {
+    let mut i = 0;
+    let mut word = base;
+    while i < memory.len() {
+        if memory[i] != word {
+            return i;
+        }
+        word = std::num::wrapping_add_u32(word, 1);
+        i += 1;
+    }
+    i
+}
+
+fn write_number(x: u32) {
+    let digits = [
+        hex::digit(x / 0x1000_0000),
+        hex::digit(x / 0x100_0000),
+        hex::digit(x / 0x10_0000),
+        hex::digit(x / 0x1_0000),
+        hex::digit(x / 0x1000),
+        hex::digit(x / 0x100),
+        hex::digit(x / 0x10),
+        hex::digit(x),
+    ];
+    io::write_all(STDOUT_FILENO, &digits);
+}
+
+// A lane as it is read: of the words those that the FIFO holds, front first, zeros after them.
+fn write_lane(l: Lane) {
+    let fill = fifo::fill(l.fifo);
+    write_number(fill.0);
+    let mut f = l.fifo;
+    let mut i: u32 = 0;
+    while i < 8 {
+        write_number(fifo::front(f));
+        f = fifo::popped(f);
+        i += 1;
+    }
+    write_number(l.address);
+    write_number(l.count.0);
+}
+
+fn write_words(words: [u32; 8]) {
+    write_number(words[0]);
+    write_number(words[1]);
+    write_number(words[2]);
+    write_number(words[3]);
+    write_number(words[4]);
+    write_number(words[5]);
+    write_number(words[6]);
+    write_number(words[7]);
+}
+
+// The state in the order of a case.
+fn write_state(c: Controller) {
+    let mail = c.mail;
+    write_words(mail);
+    write_number(c.marks);
+    let from_pci = c.from_pci;
+    write_lane(from_pci);
+    let from_addon = c.from_addon;
+    write_lane(from_addon);
+    write_number(c.intcsr);
+    write_number(c.mcsr);
+}
+
+// Where the memory changed and to what; all ones and zero where it did not.
+fn write_memory(memory: &[u32], base: u32) {
+    let i = changed(memory, base);
+    if i < memory.len() {
+        write_number((i % 0x1_0000_0000) as u32);
+        write_number(memory[i]);
+    } else {
+        write_number(0xFFFF_FFFF);
+        write_number(0);
+    }
+}
+
+fn write_answer(a: Answer) {
+    let mut out = [0u8; 40];
+    let n = logline::put_line(&mut out, 0, a);
+    io::write_all(STDOUT_FILENO, &out[..n]);
+}
+
+fn step_in(line: &[u8]) -> Step {
+    Step {
+        kind: field(line, 36),
+        offset: field(line, 37),
+        enables: field(line, 38),
+        value: field(line, 39),
+    }
+}
+
+// One case over its window.
+fn run_case(line: &[u8], window: &mut [u32]) {
+    let base = field(line, 35);
+    filled(window, base);
+    let r = step::step(controller(line), window, field(line, 33), step_in(line));
+    let a = r.answer;
+    let c = r.controller;
+    write_answer(a);
+    write_state(c);
+    write_memory(window, base);
+    io::write_all(STDOUT_FILENO, b"\n");
+}
+
+// The window has as many words as the case says, if there are so many.
+fn run_line(line: &[u8], memory: &mut [u32]) {
+    let words = field(line, 34) as usize;
+    if words <= memory.len() {
+        run_case(line, &mut memory[..words]);
+    }
+}
+
+fn run_lines(text: &[u8]) {
+    let mut memory = [0u32; 16385];
+    let mut at = 0;
+    while at < text.len() {
+        run_line(lines::line_at(text, at), &mut memory);
+        at = lines::past_line(text, at);
+    }
+}
+
+fn main() {
+    let mut text = [0u8; 262144];
+    let n = io::read_full(STDIN_FILENO, &mut text);
+    run_lines(&text[..n]);
+}
