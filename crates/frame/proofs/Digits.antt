@@ -1,7 +1,7 @@
 -- The loops over digits, and the parts of a line of digits.
 --     all-more, all-stop, all-end    whether all are digits, by the byte at a place
 --     number-more, number-end        the number of the digits from a place on
---     more, small                    one digit more, as a bound; eight digits at most
+--     more, small                    one digit more, as a bound; 13 digits at most
 --     all-part                       a part of a line of digits is one of digits
 use Prim.Native.Nat.{ℕ, zero, suc, _+_, _*_, _^_, _≤_, _<_}
 use mathlib.Core.Path.{_≡_, refl, sym, ap, _∙_}
@@ -30,13 +30,6 @@ module _ (s : List ℕ) (i : ℕ) where
   unfolding allDigits
   all-end h = rw (drop-of-length-le s h)
 
-  -- all that are left are digits: the one there, and the rest
-  pub all-here : i < length s → allDigits (drop i s) ≡ true → (digitNumber (getD s i 0) < 16) × (allDigits (drop (i + 1) s) ≡ true)
-  unfolding allDigits
-  all-here h e =
-      let parts = all-parts (ltb (digitNumber (getD s i 0)) 16) (allDigits (drop (suc i) s)) (rw (drop-cons s i 0 h) at e) in
-      (ltb-true (digitNumber (getD s i 0)) 16 (parts .0), rw add-one (parts .1))
-
   pub number-more : (n : ℕ) → i < length s → numberFrom n (drop i s) ≡ numberFrom (n * 16 + digitNumber (getD s i 0)) (drop (i + 1) s)
   unfolding numberFrom
   number-more n h = rw (add-one, drop-cons s i 0)
@@ -48,7 +41,7 @@ module _ (s : List ℕ) (i : ℕ) where
 pub more : (i n d : ℕ) → n < 16 ^ i → d < 16 → n * 16 + d < 16 ^ (i + 1)
 more i n d h k = rw (add-one, pow-suc) (omega arith)
 
-pub small : {i : ℕ} → i ≤ 8 → 16 ^ i ≤ 16 ^ 8
+pub small : {i : ℕ} → i ≤ 13 → 16 ^ i ≤ 16 ^ 13
 small h = pow-le-pow-right {n = 16} (lit< tt) h
 
 all-drop : (k : ℕ) (s : List ℕ) → allDigits s ≡ true → allDigits (drop k s) ≡ true

@@ -79,7 +79,7 @@ frame-read s h =
 -- ---- what is read was written so
 
 -- the parts of a line of 13 bytes, joined
-parts-of : (line : List ℕ) → length line ≡ 13 → (part 0 2 line ++ part 2 2 line ++ part 4 1 line ++ part 5 8 line) ≡ line
+pub parts-of : (line : List ℕ) → length line ≡ 13 → (part 0 2 line ++ part 2 2 line ++ part 4 1 line ++ part 5 8 line) ≡ line
 parts-of line e =
     let l3 = length-drop 5 line in
     joined′ ∙ ap (λ l. take 2 line ++ (take 2 (drop 2 line) ++ (take 1 (drop 4 line) ++ l))) (take-all 8 (drop 5 line) (omega arith))

@@ -10,6 +10,8 @@ use Rattle.machine.specs.declared.Step.{Step}
 use Rattle.hex.specs.Hex.{allDigits, number}
 use Rattle.frame.specs.declared.Framed.{Framed}
 use Rattle.frame.specs.declared.Framed.the-variants.{Frame, NotAFrame}
+use Rattle.frame.specs.declared.Value.{Value}
+use Rattle.frame.specs.declared.Value.the-variants.{Number, NotDigits}
 
 -- `count` bytes of a line, from a place on
 abbrev pub part : ℕ → ℕ → List ℕ → List ℕ
@@ -31,3 +33,8 @@ frameOf line = cond (isFrame line) (Frame (stepIn line)) NotAFrame
 unfoldable pub outcomeOf : Framed → State → ℕ → List ℕ → Outcome
 outcomeOf (Frame s) st start memory = stepOf st start memory s
 outcomeOf NotAFrame st start memory = record { state = st; memory = memory; answer = notAFrame st }
+
+-- ---- inside: a line of digits as one number
+
+unfoldable pub valueOf : List ℕ → Value
+valueOf s = cond (allDigits s) (Number (number s)) NotDigits

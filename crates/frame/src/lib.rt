@@ -1,10 +1,8 @@
 // Frames: the text form of a step, 13 upper-case hexadecimal digits.
 ghost use mathlib.Core.Path.{_≡_};
-ghost use mathlib.Core.Bool.{true};
 ghost use Prim.Native.Nat.{_≤_};
 ghost use lib.ListN.{length};
-ghost use Rattle.hex.specs.Hex as hex;
-ghost use Rattle.frame.specs.Frame.{frameOf};
+ghost use Rattle.frame.specs.Frame.{frameOf, valueOf};
 use machine::Step;
 
 // What a line says.
@@ -13,54 +11,43 @@ pub enum Framed {
     NotAFrame,
 }
 
-fn all_digits(s: &[u8]) -> bool
-    ensures { λ r. ⌜ r ≡ hex.allDigits (now (s .entry)) ⌝ }
-{
-    let mut i = 0;
-    while i < s.len() {
-        let n = hex::digit_number(s[i]);
-        if 15 < n {
-            return false;
-        }
-        i += 1;
-    }
-    true
+// The number that digits stand for.
+enum Value {
+    Number(u64),
+    NotDigits,
 }
 
-// The number that digits stand for.
-fn number(s: &[u8]) -> u32
-    requires { ⌜ length (now s) ≤ 8 ⌝ }
-    requires { ⌜ hex.allDigits (now s) ≡ true ⌝ }
-    ensures { λ r. ⌜ r ≡ hex.number (now (s .entry)) ⌝ }
+fn number(s: &[u8]) -> Value
+    requires { ⌜ length (now s) ≤ 13 ⌝ }
+    ensures { λ r. ⌜ r ≡ valueOf (now (s .entry)) ⌝ }
 {
-    let mut n: u32 = 0;
+    let mut n: u64 = 0;
     let mut i = 0;
     while i < s.len() {
         let d = hex::digit_number(s[i]);
-        n = n * 16 + d as u32;
+        if 15 < d {
+            return Value::NotDigits;
+        }
+        n = n * 16 + d as u64;
         i += 1;
     }
-    n
+    Value::Number(n)
 }
 
-// A line of 13 digits: kind 2, offset 2, enables 1, data 8.
+// A line of 13 digits: kind 2, offset 2, enables 1, data 8. They are read as one number, which is cut.
 pub fn frame(line: &[u8]) -> Framed
     ensures { λ r. ⌜ r ≡ frameOf (now (line .entry)) ⌝ }
 {
     if line.len() != 13 {
         return Framed::NotAFrame;
     }
-    if all_digits(line) {
-        let kind = number(&line[0..2]);
-        let offset = number(&line[2..4]);
-        let enables = number(&line[4..5]);
-        let value = number(&line[5..13]);
-        return Framed::Frame(Step {
-            kind,
-            offset,
-            enables,
-            value,
-        });
-    }
-    Framed::NotAFrame
+    let Value::Number(n) = number(line) else {
+        return Framed::NotAFrame;
+    };
+    Framed::Frame(Step {
+        kind: (n >> 44) as u32,
+        offset: ((n >> 36) % 256) as u32,
+        enables: ((n >> 32) % 16) as u32,
+        value: (n % 0x1_0000_0000) as u32,
+    })
 }

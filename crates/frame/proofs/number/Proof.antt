@@ -3,37 +3,41 @@ use mathlib.Core.Path.{_≡_, refl, sym, ap, _∙_}
 use Prim.Native.Nat.{ℕ, _+_, _*_, _-_, _^_, _≤_, _<_}
 use native.Mathlib.Omega.{arith}
 use lib.ListN.{length, drop, getD}
-use mathlib.Core.Bool.{true}
 use native.Mathlib.Nat.{le-trans}
 use lib.Dec.{lit<}
 use Rattle.hex.specs.Hex.{allDigits, number, numberFrom}
-use Rattle.frame.proofs.Digits.{all-here, number-more, number-end, more, small}
+use Rattle.frame.specs.Frame.{valueOf}
+use Rattle.frame.proofs.Digits.{all-more, all-stop, all-end, number-more, number-end, more, small}
 use borrow.Author.Needs.{needs}
 use Rattle.frame.proofs.number.Statement.{statement}
 use Rattle.frame.proofs.number.Tie as tie
 
 abbrev Inv-loop : tie.InvT-loop
-Inv-loop s n₀ i₀ n i = (n < 16 ^ i) × (allDigits (drop i s) ≡ true) × (number s ≡ numberFrom n (drop i s))
+Inv-loop s n₀ i₀ n i = (i ≤ length s) × (n < 16 ^ i) × (allDigits s ≡ allDigits (drop i s)) × (number s ≡ numberFrom n (drop i s))
 
 abbrev μ-loop : tie.MeasureT-loop
 μ-loop s n₀ i₀ n i = length s - i
 
 -- one digit more still fits
-next : (c : tie.After-digit-number Inv-loop μ-loop) → c .before .before .before .loop .n * 16 + c .digit-number .result < 16 ^ 8
+next : (c : tie.Else1 Inv-loop μ-loop) → c .before .before .before .before .loop .n * 16 + c .before .digit-number .result < 16 ^ 13
 next c =
-    let l = c .before .before .before in
-    let s = now (l .before .before .args .s) in
-    let here = all-here s (l .loop .i) (omega arith) (l .loop .inv .1) in
-    le-trans (more (l .loop .i) (l .loop .n) (c .digit-number .result) (l .loop .inv .0) (rw (c .digit-number .ensures) (here .0))) (small {i = l .loop .i + 1} (omega (arith, l .before .before .pre .0)))
+    let l = c .before .before .before .before in
+    le-trans (more (l .loop .i) (l .loop .n) (c .before .digit-number .result) (l .loop .inv .1) (omega arith)) (small {i = l .loop .i + 1} (omega (arith, l .before .before .pre)))
 
 loop-holds : tie.Need-loop-holds Inv-loop μ-loop
-loop-holds c = (lit< tt, c .before .pre .1, refl)
+loop-holds c = (omega arith, lit< tt, refl, refl)
 
 shared-slice-read-digit-number : tie.Need-shared-slice-read-digit-number Inv-loop μ-loop
 shared-slice-read-digit-number c = omega arith
 
 digit-number-requires : tie.Need-digit-number-requires Inv-loop μ-loop
 digit-number-requires c κs = search needs
+
+returns : tie.Need-returns Inv-loop μ-loop
+unfolding valueOf
+returns c =
+    let l = c .before .before .before .before in
+    simp (l .loop .inv .2 ∙ all-stop (now (l .before .before .args .s)) (l .loop .i) (omega arith) (omega (arith, c .before .digit-number .ensures)))
 
 mul-n : tie.Need-mul-n Inv-loop μ-loop
 mul-n c = omega (arith, next c)
@@ -52,19 +56,21 @@ loop-less c = omega arith
 
 loop-again : tie.Need-loop-again Inv-loop μ-loop
 loop-again c =
-    let l = c .before .before .before in
-    let s = now (l .before .before .args .s) in
-    let here = all-here s (l .loop .i) (omega arith) (l .loop .inv .1) in (
-      more (l .loop .i) (l .loop .n) (c .digit-number .result) (l .loop .inv .0) (rw (c .digit-number .ensures) (here .0)),
-      here .1,
-      rw (c .digit-number .ensures) (l .loop .inv .2 ∙ number-more s (l .loop .i) (l .loop .n) (omega arith)),
+    let l = c .before .before .before .before in
+    let s = now (l .before .before .args .s) in (
+      omega arith,
+      more (l .loop .i) (l .loop .n) (c .before .digit-number .result) (l .loop .inv .1) (omega arith),
+      l .loop .inv .2 ∙ all-more s (l .loop .i) (omega arith) (omega (arith, c .before .digit-number .ensures)),
+      rw (c .before .digit-number .ensures) (l .loop .inv .3 ∙ number-more s (l .loop .i) (l .loop .n) (omega arith)),
     )
 
-returns : tie.Need-returns Inv-loop μ-loop
-returns c =
+returns-2 : tie.Need-returns-2 Inv-loop μ-loop
+unfolding valueOf
+returns-2 c =
     let l = c .before in
-    sym (l .loop .inv .2 ∙ number-end (now (l .before .before .args .s)) (l .loop .i) (l .loop .n) (c .loop-test .left))
+    let s = now (l .before .before .args .s) in
+    simp (l .loop .inv .2 ∙ all-end s (l .loop .i) (c .loop-test .left), l .loop .inv .3 ∙ number-end s (l .loop .i) (l .loop .n) (c .loop-test .left))
 
 pub number-spec : {M : Type 1} → statement M
 number-spec =
-    tie.close (tie.spec Inv-loop μ-loop loop-holds shared-slice-read-digit-number digit-number-requires mul-n cast-n add-n add-i loop-less loop-again returns)
+    tie.close (tie.spec Inv-loop μ-loop loop-holds shared-slice-read-digit-number digit-number-requires returns mul-n cast-n add-n add-i loop-less loop-again returns-2)
