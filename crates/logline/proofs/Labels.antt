@@ -1,24 +1,17 @@
--- The labels as the tables have them, and what is promised of them.
-use Prim.Native.Nat.{ℕ, zero, suc, _+_, _≤_, _<_, zero-le}
-use mathlib.Core.Path.{_≡_, refl, sym, ap, _∙_, subst}
-use mathlib.Core.List.{List, [], _∷_, _++_, map}
+-- What is promised of the labels.
+use Prim.Native.Nat.{ℕ, zero, suc, _≤_, zero-le}
+use mathlib.Core.Path.{_≡_, refl}
+use mathlib.Core.List.{List, [], _∷_}
 use mathlib.Core.Bool.{Bool, true, false, cond}
 use lib.Dec.{leb}
 use native.Mathlib.Omega.{arith}
 use borrow.Author.Tests.{leb-true}
-use lib.ListN.{length, getD, take, length-append, List·getD-eq-default}
+use lib.ListN.{length, getD, length-append, List·getD-eq-default}
 use Rattle.hex.proofs.Numbers.{length-digits}
 use Rattle.machine.specs.declared.Answer.{Answer}
-use Rattle.logline.specs.Wrote.{Wrote}
 use Rattle.logline.specs.Labels.{labels, labelOf}
 use Rattle.logline.specs.LogLine.{numbers, logBody, logLine}
 use Rattle.logline.specs.Promises.{LabelsShort, LineFits}
-use Rattle.logline.proofs.Padded.{pad, padded-at}
-
--- the bytes that stand for a label, as the tables have them
-pub written : {out after : List ℕ} {at r : ℕ} (code : ℕ) → Wrote out at (take (getD (map length labels) code 0) (getD (map pad labels) code [])) r after → Wrote out at (labelOf code) r after
-unfolding labelOf
-written {out} {after} {at} {r} code w = subst (λ (b : List ℕ). Wrote out at b r after) (padded-at labels code) w
 
 pub past : (code : ℕ) → 15 ≤ code → labelOf code ≡ []
 unfolding labelOf labels

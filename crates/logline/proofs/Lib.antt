@@ -1,6 +1,5 @@
 pub mod Stores
 pub mod Digits
-pub mod Padded
 pub mod Labels
 pub mod Keys
 pub mod Room

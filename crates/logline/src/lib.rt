@@ -11,27 +11,6 @@ use machine::Answer;
 // The most bytes that a log line has.
 pub const LINE_ROOM: usize = 40;
 
-// The labels in the order of the codes, each filled up with spaces to 18 bytes, and how long each is without them.
-const LABELS: [[u8; 18]; 15] = [
-    *b"done              ",
-    *b"state out of form ",
-    *b"window out of form",
-    *b"unknown step      ",
-    *b"unknown offset    ",
-    *b"bad enables       ",
-    *b"part FIFO access  ",
-    *b"read-only register",
-    *b"FIFO full or empty",
-    *b"transfer off      ",
-    *b"count is zero     ",
-    *b"abort stands      ",
-    *b"FIFO not ready    ",
-    *b"no memory there   ",
-    *b"not a frame line  ",
-];
-
-const LENGTHS: [usize; 15] = [4, 17, 18, 12, 14, 11, 16, 18, 18, 12, 13, 12, 14, 15, 16];
-
 // Writes the lowest `count` digits of x, the highest first, and answers the place past them.
 fn put_digits(out: &mut [u8], at: usize, count: usize, x: u32) -> usize
     requires { ⌜ at + count ≤ length (now out) ⌝ }
@@ -64,13 +43,23 @@ fn put_label(out: &mut [u8], at: usize, code: u32) -> usize
     requires { ⌜ at + 18 ≤ length (now out) ⌝ }
     ensures { λ r. ⌜ Wrote (now (out .entry)) at (labelOf code) r (now (out .exit)) ⌝ }
 {
-    let i = code as usize;
-    if i < 15 {
-        let bytes = LABELS[i];
-        let len = LENGTHS[i];
-        put(out, at, &bytes[..len])
-    } else {
-        at
+    match code {
+        0 => put(out, at, b"done"),
+        1 => put(out, at, b"state out of form"),
+        2 => put(out, at, b"window out of form"),
+        3 => put(out, at, b"unknown step"),
+        4 => put(out, at, b"unknown offset"),
+        5 => put(out, at, b"bad enables"),
+        6 => put(out, at, b"part FIFO access"),
+        7 => put(out, at, b"read-only register"),
+        8 => put(out, at, b"FIFO full or empty"),
+        9 => put(out, at, b"transfer off"),
+        10 => put(out, at, b"count is zero"),
+        11 => put(out, at, b"abort stands"),
+        12 => put(out, at, b"FIFO not ready"),
+        13 => put(out, at, b"no memory there"),
+        14 => put(out, at, b"not a frame line"),
+        _ => at,
     }
 }
 

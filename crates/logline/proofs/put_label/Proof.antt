@@ -1,41 +1,83 @@
-use mathlib.Core.List.{[], map}
-use lib.ListN.{getD}
-use Rattle.logline.proofs.Padded.{pad, padded-at}
-use mathlib.Core.Path.{_≡_, sym, ap, _∙_}
+use Prim.Native.Nat.{ℕ, _+_, _≤_, zero-le}
+use mathlib.Core.Path.{_≡_}
 use native.Mathlib.Omega.{arith}
-use lib.ListN.{length}
-use lib.Seq.{length-take-le}
 use Rattle.logline.specs.Labels.{labels, labelOf}
-use Rattle.logline.proofs.Padded.{padded-fits}
-use Rattle.logline.proofs.Labels.{written, past, labels-short}
+use Rattle.logline.proofs.Labels.{past}
 use Rattle.logline.proofs.Stores.{wrote-none}
 use borrow.Author.Needs.{needs}
 use Rattle.logline.proofs.put_label.Statement.{statement}
 use Rattle.logline.proofs.put_label.Tie as tie
 
-array-share-prefix-bytes : tie.Need-array-share-prefix-bytes
-unfolding labels
-array-share-prefix-bytes c = padded-fits labels (c .before .before .before .before .args .code)
-
-slice-aggregate-put : tie.Need-slice-aggregate-put
-unfolding labels
-slice-aggregate-put c =
-    let k = c .before .before .before .before .before .args .code in
-    sym (length-take-le (getD (map length labels) k 0) (getD (map pad labels) k []) (padded-fits labels k))
-
-put-requires : tie.Need-put-requires
-unfolding labels labelOf
-put-requires c κs =
-    let s = c .before .before .before .before .before in
-    omega (arith, s .pre, ap length (padded-at labels (s .args .code)), labels-short (s .args .code))
+-- a number that is not k is above it
+up : {n k : ℕ} → k ≤ n → (n ≡ k → ⊥) → k + 1 ≤ n
+up h e = omega arith
 
 returns : tie.Need-returns
-unfolding labels
-returns c = written (c .before .before .before .before .before .before .before .before .args .code) (c .before .before .put .ensures)
+unfolding labels labelOf
+returns c = rw (c .before .before .before .before .before .match .keys1) (c .before .before .put .ensures)
 
 returns-2 : tie.Need-returns-2
-returns-2 c = rw (past _ (c .if1 .left)) wrote-none
+unfolding labels labelOf
+returns-2 c = rw (c .before .before .before .before .before .match .keys2) (c .before .before .put2 .ensures)
+
+returns-3 : tie.Need-returns-3
+unfolding labels labelOf
+returns-3 c = rw (c .before .before .before .before .before .match .keys3) (c .before .before .put3 .ensures)
+
+returns-4 : tie.Need-returns-4
+unfolding labels labelOf
+returns-4 c = rw (c .before .before .before .before .before .match .keys4) (c .before .before .put4 .ensures)
+
+returns-5 : tie.Need-returns-5
+unfolding labels labelOf
+returns-5 c = rw (c .before .before .before .before .before .match .keys5) (c .before .before .put5 .ensures)
+
+returns-6 : tie.Need-returns-6
+unfolding labels labelOf
+returns-6 c = rw (c .before .before .before .before .before .match .keys6) (c .before .before .put6 .ensures)
+
+returns-7 : tie.Need-returns-7
+unfolding labels labelOf
+returns-7 c = rw (c .before .before .before .before .before .match .keys7) (c .before .before .put7 .ensures)
+
+returns-8 : tie.Need-returns-8
+unfolding labels labelOf
+returns-8 c = rw (c .before .before .before .before .before .match .keys8) (c .before .before .put8 .ensures)
+
+returns-9 : tie.Need-returns-9
+unfolding labels labelOf
+returns-9 c = rw (c .before .before .before .before .before .match .keys9) (c .before .before .put9 .ensures)
+
+returns-10 : tie.Need-returns-10
+unfolding labels labelOf
+returns-10 c = rw (c .before .before .before .before .before .match .keys10) (c .before .before .put10 .ensures)
+
+returns-11 : tie.Need-returns-11
+unfolding labels labelOf
+returns-11 c = rw (c .before .before .before .before .before .match .keys11) (c .before .before .put11 .ensures)
+
+returns-12 : tie.Need-returns-12
+unfolding labels labelOf
+returns-12 c = rw (c .before .before .before .before .before .match .keys12) (c .before .before .put12 .ensures)
+
+returns-13 : tie.Need-returns-13
+unfolding labels labelOf
+returns-13 c = rw (c .before .before .before .before .before .match .keys13) (c .before .before .put13 .ensures)
+
+returns-14 : tie.Need-returns-14
+unfolding labels labelOf
+returns-14 c = rw (c .before .before .before .before .before .match .keys14) (c .before .before .put14 .ensures)
+
+returns-15 : tie.Need-returns-15
+unfolding labels labelOf
+returns-15 c = rw (c .before .before .before .before .before .match .keys15) (c .before .before .put15 .ensures)
+
+returns-16 : tie.Need-returns-16
+returns-16 c =
+    let r = c .match .rest in
+    let n : 15 ≤ c .before .before .args .code = up (up (up (up (up (up (up (up (up (up (up (up (up (up (up zero-le (r .0 .0 .0 .0 .0 .0 .0 .0 .0 .0 .0 .0 .0 .0 .1)) (r .0 .0 .0 .0 .0 .0 .0 .0 .0 .0 .0 .0 .0 .1)) (r .0 .0 .0 .0 .0 .0 .0 .0 .0 .0 .0 .0 .1)) (r .0 .0 .0 .0 .0 .0 .0 .0 .0 .0 .0 .1)) (r .0 .0 .0 .0 .0 .0 .0 .0 .0 .0 .1)) (r .0 .0 .0 .0 .0 .0 .0 .0 .0 .1)) (r .0 .0 .0 .0 .0 .0 .0 .0 .1)) (r .0 .0 .0 .0 .0 .0 .0 .1)) (r .0 .0 .0 .0 .0 .0 .1)) (r .0 .0 .0 .0 .0 .1)) (r .0 .0 .0 .0 .1)) (r .0 .0 .0 .1)) (r .0 .0 .1)) (r .0 .1)) (r .1) in
+    rw (past _ n) wrote-none
 
 pub put-label-spec : {M : Type 1} → statement M
 put-label-spec =
-    tie.close (tie.spec (λ c. search needs) (λ c. search needs) (λ c. search needs) (λ c. search needs) array-share-prefix-bytes slice-aggregate-put put-requires (λ c. search needs) returns returns-2)
+    tie.close (tie.spec (λ c. search needs) (λ c κs. search needs) (λ c. search needs) (λ c κs. search needs) (λ c. search needs) (λ c κs. search needs) (λ c. search needs) (λ c κs. search needs) (λ c. search needs) (λ c κs. search needs) (λ c. search needs) (λ c κs. search needs) (λ c. search needs) (λ c κs. search needs) (λ c. search needs) (λ c κs. search needs) (λ c. search needs) (λ c κs. search needs) (λ c. search needs) (λ c κs. search needs) (λ c. search needs) (λ c κs. search needs) (λ c. search needs) (λ c κs. search needs) (λ c. search needs) (λ c κs. search needs) (λ c. search needs) (λ c κs. search needs) (λ c. search needs) (λ c κs. search needs) (λ c. search needs) returns (λ c. search needs) returns-2 (λ c. search needs) returns-3 (λ c. search needs) returns-4 (λ c. search needs) returns-5 (λ c. search needs) returns-6 (λ c. search needs) returns-7 (λ c. search needs) returns-8 (λ c. search needs) returns-9 (λ c. search needs) returns-10 (λ c. search needs) returns-11 (λ c. search needs) returns-12 (λ c. search needs) returns-13 (λ c. search needs) returns-14 (λ c. search needs) returns-15 returns-16)
