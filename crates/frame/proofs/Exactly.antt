@@ -1,8 +1,8 @@
 -- A line is read as a step if and only if it is that step's numbers, written.
 use Prim.Native.Nat.{ℕ, _+_, _≤_, _<_, _^_}
 use mathlib.Core.Path.{_≡_, refl, sym, ap, _∙_}
-use mathlib.Core.Bool.{Bool, true, false, _&&_}
-use mathlib.Core.List.{List, [], _++_, append-assoc}
+use mathlib.Core.Bool.{Bool, true, false}
+use mathlib.Core.List.{List, _++_, append-assoc}
 use native.Mathlib.Omega.{arith}
 use borrow.Author.Tests.{eqb-true}
 use lib.ListN.{length, take, drop, length-append, length-drop, take-append-drop}
@@ -11,7 +11,6 @@ use lib.Dec.{eqb}
 use Rattle.machine.specs.declared.Step.{Step}
 use Rattle.hex.specs.Hex.{allDigits, number, digits}
 use Rattle.hex.proofs.Numbers.{length-digits, all-append, all-parts, number-lt, digits-are, number-digits, digits-number}
-use Rattle.frame.specs.declared.Framed.{Framed}
 use Rattle.frame.specs.declared.Framed.the-variants.{Frame, NotAFrame}
 use Rattle.frame.specs.Frame.{part, isFrame, stepIn, frameOf}
 use Rattle.frame.specs.Exactly.{frameLine, Fits, FrameRead, FrameOnly}

@@ -1,4 +1,4 @@
--- "Exactly the described frame lines are read as steps": a line is read as a step if and only if it is the four numbers of that step,
+-- Exactly the described frame lines are read as steps: a line is read as a step if and only if it is the four numbers of that step,
 -- written in 2, 2, 1 and 8 digits.
 use Prim.Native.Nat.{_<_, _^_}
 use mathlib.Core.Path.{_≡_}

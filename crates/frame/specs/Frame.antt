@@ -30,9 +30,9 @@ unfoldable pub frameOf : List ℕ → Framed
 frameOf line = cond (isFrame line) (Frame (stepIn line)) NotAFrame
 
 -- What each case of that answer stands for: a frame is a step; "any other line, the empty one included, is code 14 and makes no step".
-unfoldable pub outcomeOf : Framed → State → ℕ → List ℕ → Outcome
-outcomeOf (Frame s) st start memory = stepOf st start memory s
-outcomeOf NotAFrame st start memory = record { state = st; memory = memory; answer = notAFrame st }
+unfoldable pub framedOutcome : Framed → State → ℕ → List ℕ → Outcome
+framedOutcome (Frame s) st start memory = stepOf st start memory s
+framedOutcome NotAFrame st start memory = record { state = st; memory = memory; answer = notAFrame st }
 
 -- ---- inside: a line of digits as one number
 

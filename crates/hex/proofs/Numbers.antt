@@ -4,9 +4,9 @@
 --     number-lt                      the number of n digits is below 16 ^ n
 --     digits-are, number-digits      what is written are digits, and they stand for the number written
 --     digits-number                  the digits of the number that digits stand for are those digits
-use Prim.Native.Nat.{ℕ, zero, suc, _+_, _*_, _/_, _%_, _^_, _≤_, _<_}
-use mathlib.Core.Path.{_≡_, refl, sym, ap, _∙_}
-use mathlib.Core.Bool.{Bool, true, false, cond, _&&_}
+use Prim.Native.Nat.{ℕ, zero, suc, _+_, _*_, _/_, _%_, _^_, _<_}
+use mathlib.Core.Path.{_≡_, refl, sym, _∙_}
+use mathlib.Core.Bool.{Bool, true, false, _&&_}
 use mathlib.Core.List.{List, [], _∷_, _++_, append-assoc, append-nil}
 use native.Mathlib.Nat.{pow-suc, add-suc, suc-add, add-zero, zero-add}
 use native.Mathlib.Numerals.{add-one}

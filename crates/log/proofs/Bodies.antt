@@ -1,10 +1,9 @@
 -- A log line has its LF at its end alone, so the log of answers has one line for each.
 use Prim.Native.Nat.{ℕ, zero, suc, _/_, _%_, _<_}
-use mathlib.Core.Path.{_≡_, refl, sym, ap, _∙_}
+use mathlib.Core.Path.{_≡_, refl, ap, _∙_}
 use mathlib.Core.Bool.{Bool, true, false, cond, not, _&&_}
-use mathlib.Core.List.{List, [], _∷_, _++_, map, append-assoc, append-nil}
+use mathlib.Core.List.{List, [], _∷_, _++_, append-assoc, append-nil}
 use native.Mathlib.Omega.{arith}
-use native.Mathlib.Decide.{ℕ-discrete}
 use borrow.Author.Tests.{eq-eqb}
 use lib.ListN.{getD}
 use lib.Dec.{eqb}
@@ -12,7 +11,7 @@ use Rattle.machine.specs.declared.Answer.{Answer}
 use Rattle.hex.specs.Hex.{bytes, hexDigits, digitOf, digits}
 use Rattle.hex.proofs.Below.{below-at}
 use Rattle.hex.proofs.Numbers.{all-parts}
-use Rattle.lines.specs.Lines.{linesFrom, lines}
+use Rattle.lines.specs.Lines.{linesFrom}
 use Rattle.lines.proofs.Lines.{lines-lf, lines-other, lines-stop}
 use Rattle.logline.specs.Labels.{labels, labelOf}
 use Rattle.logline.specs.LogLine.{numbers, logBody, logLine}

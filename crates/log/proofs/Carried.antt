@@ -4,10 +4,9 @@
 --     lf-turn, other-turn, fed-none   a turn of the loop over a piece, at an LF and at any other byte; and its end
 --     push-room, push-full            another byte, with room for it and without
 --     answers-few                     no more answers than bytes
-use Prim.Native.Nat.{ℕ, suc, _+_, _*_, _≤_, _<_, min, zero-le}
-use mathlib.Core.Path.{_≡_, refl, sym, ap, _∙_}
+use Prim.Native.Nat.{ℕ, suc, _+_, _≤_, _<_, min, zero-le}
+use mathlib.Core.Path.{_≡_, sym, _∙_}
 use mathlib.Core.List.{List, [], _∷_, _++_, append-assoc, append-nil}
-use mathlib.Core.Bool.{Bool, cond}
 use native.Mathlib.Numerals.{add-one}
 use native.Mathlib.Omega.{arith}
 use native.Mathlib.Decide.{decLe, ℕ-discrete}

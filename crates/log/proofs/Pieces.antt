@@ -3,7 +3,6 @@
 --     piece-told     a text that begins with a piece
 use Prim.Native.Nat.{ℕ, zero, suc, _+_, _≤_, _<_}
 use mathlib.Core.Path.{_≡_, refl, sym, ap, _∙_}
-use mathlib.Core.Bool.{Bool, false, _&&_}
 use mathlib.Core.List.{List, [], _∷_, _++_, append-assoc, append-nil}
 use native.Mathlib.Omega.{arith}
 use native.Mathlib.Decide.{decLe, decLt, ℕ-discrete}
@@ -13,7 +12,7 @@ use lib.Seq.{take-all, take-take, take-append-le, length-take-le}
 use Rattle.machine.specs.State.{State}
 use Rattle.lines.specs.Lines.{linesFrom}
 use Rattle.lines.proofs.Lines.{lines-lf, lines-other, lines-end, lines-stop}
-use Rattle.frame.specs.Frame.{isFrame, frameOf, outcomeOf}
+use Rattle.frame.specs.Frame.{isFrame, frameOf}
 use Rattle.log.specs.Log.{lineOutcome, Told, toldOf, after, Fed, fedOf}
 use Rattle.log.specs.Promises.{joined, piecesTold, PiecesJoined}
 use Rattle.log.proofs.Carried.{fed-lf, fed-other}

@@ -1,9 +1,8 @@
 -- Texts joined after an LF, and a text as a run of its steps.
 use Prim.Native.Nat.{ℕ}
-use mathlib.Core.Path.{_≡_, refl, sym, ap, _∙_}
+use mathlib.Core.Path.{_≡_, refl, ap, _∙_}
 use mathlib.Core.List.{List, [], _∷_, _++_, map}
 use native.Mathlib.Decide.{ℕ-discrete}
-use lib.ListN.{length}
 use Rattle.machine.specs.State.{State}
 use Rattle.machine.specs.Step.{stepOf}
 use Rattle.machine.specs.Event.{Event}
@@ -13,8 +12,8 @@ use Rattle.lines.specs.Lines.{linesFrom, lines}
 use Rattle.lines.proofs.Lines.{lines-lf, lines-other, lines-stop}
 use Rattle.frame.specs.declared.Framed.{Framed}
 use Rattle.frame.specs.declared.Framed.the-variants.{Frame, NotAFrame}
-use Rattle.frame.specs.Frame.{frameOf, outcomeOf}
-use Rattle.log.specs.Log.{lineOutcome, logOf, Told, toldOf, after, textTold}
+use Rattle.frame.specs.Frame.{frameOf, framedOutcome}
+use Rattle.log.specs.Log.{lineOutcome, logOf, Told, toldOf, after}
 use Rattle.log.specs.Promises.{OneAnswerEach, TextsJoined, framed, stepsIn, toFrame, toFrames, Runs, TextRuns}
 use Rattle.log.proofs.Told.{log-append, told-length}
 
@@ -58,16 +57,16 @@ texts-joined st start memory a b first e =
 module _ (st : State) (start : ℕ) (memory : List ℕ) (ls : List (List ℕ)) where
   -- what a line's outcome leaves to the others
   abbrev rest : Framed → Told
-  rest f = toldOf (outcomeOf f st start memory .state) start (outcomeOf f st start memory .memory) ls
+  rest f = toldOf (framedOutcome f st start memory .state) start (framedOutcome f st start memory .memory) ls
 
   abbrev ran : Framed → Ran
   ran f = run st start memory (framed f ++ stepsIn ls)
 
-  runs-step : (f : Framed) → Runs ls (rest f) (run (outcomeOf f st start memory .state) start (outcomeOf f st start memory .memory) (stepsIn ls))
+  runs-step : (f : Framed) → Runs ls (rest f) (run (framedOutcome f st start memory .state) start (framedOutcome f st start memory .memory) (stepsIn ls))
       → (rest f .state ≡ ran f .state)
       × (rest f .memory ≡ ran f .memory)
-      × (toFrame f (outcomeOf f st start memory .answer) ++ toFrames ls (rest f .answers) ≡ map (λ (v : Event). v .answer) (ran f .events))
-  unfolding outcomeOf
+      × (toFrame f (framedOutcome f st start memory .answer) ++ toFrames ls (rest f .answers) ≡ map (λ (v : Event). v .answer) (ran f .events))
+  unfolding framedOutcome
   runs-step (Frame s) h = (h .state, h .memory, ap (λ (l : List Answer). stepOf st start memory s .answer ∷ l) (h .answers))
   runs-step NotAFrame h = (h .state, h .memory, h .answers)
 

@@ -1,7 +1,6 @@
 -- Two results that meet one contract are the same.
-use mathlib.Core.Path.{_≡_, sym, _∙_, ap}
-use Rattle.controller.specs.Controller.{stateOf}
-use Rattle.log.specs.Results.{Run, Piece, begunOf}
+use mathlib.Core.Path.{sym, _∙_, ap}
+use Rattle.log.specs.Results.{Run, Piece}
 use Rattle.log.specs.Unique.{RunUnique, FeedUnique}
 
 pub run-unique : RunUnique

@@ -1,6 +1,6 @@
 -- What is answered as written is within the output.
-use Prim.Native.Nat.{ℕ, _+_, _≤_}
-use mathlib.Core.Path.{_≡_, refl, sym, ap, _∙_}
+use Prim.Native.Nat.{ℕ, _+_}
+use mathlib.Core.Path.{_≡_, refl, ap, _∙_}
 use mathlib.Core.Bool.{Bool, true, false}
 use mathlib.Core.List.{List, _++_}
 use native.Mathlib.Omega.{arith}
@@ -11,7 +11,7 @@ use Rattle.machine.specs.declared.Answer.{Answer}
 use Rattle.controller.specs.Controller.{stateOf}
 use Rattle.controller.specs.declared.Controller.{Controller}
 use Rattle.lines.specs.Lines.{lines}
-use Rattle.log.specs.declared.Logged.the-variants.{Written, NoRoom}
+use Rattle.log.specs.declared.Logged.the-variants.{Written}
 use Rattle.log.specs.declared.Ran.{Ran}
 use Rattle.log.specs.declared.Stream.{Stream}
 use Rattle.log.specs.declared.Streamed.{Streamed}

@@ -6,16 +6,16 @@ use lib.ListN.{length}
 use Rattle.machine.specs.Step.{computing}
 use Rattle.hex.specs.Hex.{hexDigits, placeIn, digitNumber, allDigits, numberFrom, digitOf, digits}
 use Rattle.lines.specs.Lines.{linesFrom}
-use Rattle.frame.specs.Frame.{isFrame, stepIn, frameOf, outcomeOf}
+use Rattle.frame.specs.Frame.{isFrame, stepIn, frameOf, framedOutcome}
 use Rattle.logline.specs.Labels.{labels, labelOf}
 use Rattle.logline.specs.LogLine.{numbers, logBody, logLine}
 use Rattle.log.specs.Log.{lineOutcome, logOf, toldOf}
 use Rattle.log.specs.Promises.{programLog, WorkedHold, EchoingFails}
 
 pub worked-hold : WorkedHold
-unfolding computing hexDigits placeIn digitNumber allDigits numberFrom digitOf digits linesFrom isFrame stepIn frameOf outcomeOf labels labelOf numbers logBody logLine lineOutcome logOf toldOf programLog
+unfolding computing hexDigits placeIn digitNumber allDigits numberFrom digitOf digits linesFrom isFrame stepIn frameOf framedOutcome labels labelOf numbers logBody logLine lineOutcome logOf toldOf programLog
 worked-hold = refl
 
 pub echoing-fails : EchoingFails
-unfolding computing hexDigits placeIn digitNumber allDigits numberFrom digitOf digits linesFrom isFrame stepIn frameOf outcomeOf labels labelOf numbers logBody logLine lineOutcome logOf toldOf programLog
+unfolding computing hexDigits placeIn digitNumber allDigits numberFrom digitOf digits linesFrom isFrame stepIn frameOf framedOutcome labels labelOf numbers logBody logLine lineOutcome logOf toldOf programLog
 echoing-fails e = let n : _≡_ {A = ℕ} 72 156 = ap length e in absurd (omega arith)

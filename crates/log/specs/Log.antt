@@ -2,23 +2,27 @@
 use Prim.Native.Nat.{ℕ}
 use mathlib.Core.List.{List, [], _∷_, _++_}
 use mathlib.Core.Bool.{cond}
-use lib.ListN.{take}
+use lib.ListN.{take, replicate}
 use lib.Dec.{eqb}
 use Rattle.machine.specs.State.{State}
 use Rattle.machine.specs.Step.{Outcome}
 use Rattle.machine.specs.declared.Answer.{Answer}
 use Rattle.lines.specs.Lines.{lf, lines}
-use Rattle.frame.specs.Frame.{frameOf, outcomeOf}
+use Rattle.frame.specs.Frame.{frameOf, framedOutcome}
 use Rattle.logline.specs.LogLine.{logLine}
 
 -- what a line brings about: its step, or code 14
 unfoldable pub lineOutcome : State → ℕ → List ℕ → List ℕ → Outcome
-lineOutcome st start memory line = outcomeOf (frameOf line) st start memory
+lineOutcome st start memory line = framedOutcome (frameOf line) st start memory
 
--- "each answer has one log line"
+-- each answer has one log line
 unfoldable pub logOf : List Answer → List ℕ
 logOf [] = []
 logOf (a ∷ more) = logLine a ++ logOf more
+
+-- "4,096 zero words of memory at address 0", where the log program and the C call begin
+abbrev pub zeroWords : List ℕ
+zeroWords = replicate 4096 0
 
 -- ---- a text
 
@@ -46,9 +50,9 @@ textTold st start memory text = toldOf st start memory (lines text)
 
 -- ---- a text in pieces
 
--- of a line that has not ended these many bytes are kept: they tell whether it is a frame, since a line of 14 is none
-abbrev pub kept : ℕ
-kept = 14
+-- of a line that has not ended these many bytes are carried: they tell whether it is a frame, since a line of 14 is none
+abbrev pub carried : ℕ
+carried = 14
 
 -- what a piece leaves: state, memory, the kept bytes of the line that has not ended, and the answers to the lines that have
 pub record Fed : Type 0 where
@@ -65,4 +69,4 @@ unfoldable pub fedOf : State → ℕ → List ℕ → List ℕ → List ℕ → 
 fedOf st start memory begun [] = record { state = st; memory = memory; begun = begun; answers = [] }
 fedOf st start memory begun (x ∷ xs) =
     let o = lineOutcome st start memory begun in
-    cond (eqb x lf) (answering (o .answer) (fedOf (o .state) start (o .memory) [] xs)) (fedOf st start memory (take kept (begun ++ (x ∷ []))) xs)
+    cond (eqb x lf) (answering (o .answer) (fedOf (o .state) start (o .memory) [] xs)) (fedOf st start memory (take carried (begun ++ (x ∷ []))) xs)

@@ -2,7 +2,7 @@
 use Prim.Native.Nat.{ℕ}
 use mathlib.Core.Path.{_≡_}
 use mathlib.Core.List.{List, [], _∷_, _++_, map}
-use lib.ListN.{length, replicate}
+use lib.ListN.{length}
 use Rattle.machine.specs.State.{State, resetState}
 use Rattle.machine.specs.Event.{Event}
 use Rattle.machine.specs.Run.{Ran, run}
@@ -14,7 +14,7 @@ use Rattle.frame.specs.declared.Framed.{Framed}
 use Rattle.frame.specs.declared.Framed.the-variants.{Frame, NotAFrame}
 use Rattle.frame.specs.Frame.{frameOf}
 use Rattle.logline.specs.LogLine.{logBody}
-use Rattle.log.specs.Log.{logOf, Told, toldOf, after, textTold, fedOf}
+use Rattle.log.specs.Log.{logOf, zeroWords, Told, toldOf, after, textTold, fedOf}
 
 -- ---- one log line for each line
 
@@ -89,7 +89,7 @@ TextRuns = (st : State) (start : ℕ) (memory : List ℕ) (ls : List (List ℕ))
 
 -- the log of a text as the log program has it: "from reset, with 4,096 zero words of memory at address 0"
 unfoldable pub programLog : List ℕ → List ℕ
-programLog text = logOf (textTold resetState 0 (replicate 4096 0) text .answers)
+programLog text = logOf (textTold resetState 0 zeroWords text .answers)
 
 abbrev pub workedFrames : List ℕ
 workedFrames = bytes "03101000000A5\n0034F00000000\n0010100000000\n0020F00000000\nxyz"
@@ -108,7 +108,7 @@ echo (line ∷ more) = line ++ (lf ∷ []) ++ echo more
 
 abbrev pub firstOnly : List (List ℕ) → List ℕ
 firstOnly [] = []
-firstOnly (line ∷ more) = logOf (toldOf resetState 0 (replicate 4096 0) (line ∷ []) .answers) ++ echo more
+firstOnly (line ∷ more) = logOf (toldOf resetState 0 zeroWords (line ∷ []) .answers) ++ echo more
 
 -- `echoing-fails`: it fails the worked frames
 abbrev pub EchoingFails : Type 0

@@ -1,12 +1,12 @@
 -- No two labels are alike, and the digits of a log line are the whole answer.
-use Prim.Native.Nat.{ℕ, zero, suc, _+_, _≤_, _<_, _^_}
+use Prim.Native.Nat.{ℕ, _+_, _<_, _^_}
 use mathlib.Core.Path.{_≡_, refl, sym, ap, _∙_}
 use mathlib.Core.Bool.{Bool, true, false, cond, _&&_}
 use mathlib.Core.List.{List, [], _∷_, _++_, append-assoc}
 use native.Mathlib.Omega.{arith}
 use lib.Dec.{eqb, lit<}
 use borrow.Author.Tests.{eqb-true, eq-eqb}
-use lib.ListN.{length, take, drop, length-append}
+use lib.ListN.{length, take, length-append}
 use lib.Seq.{take-append-seam, drop-append-seam}
 use Rattle.machine.specs.declared.Answer.{Answer}
 use Rattle.hex.specs.Hex.{bytes, digits, number}
@@ -14,7 +14,7 @@ use Rattle.hex.proofs.Below.{below, below-at}
 use Rattle.hex.proofs.Numbers.{length-digits, number-digits}
 use Rattle.logline.specs.Labels.{labels, labelOf}
 use Rattle.logline.specs.LogLine.{numbers, logBody, logLine}
-use Rattle.logline.specs.Promises.{Fits, LabelsDiffer, NumbersAreKey}
+use Rattle.logline.specs.Promises.{LabelsDiffer, NumbersAreKey}
 
 -- ---- labels, by a test of every pair
 

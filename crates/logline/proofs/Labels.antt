@@ -8,7 +8,6 @@ use native.Mathlib.Omega.{arith}
 use borrow.Author.Tests.{leb-true}
 use lib.ListN.{length, getD, length-append, List·getD-eq-default}
 use Rattle.hex.proofs.Numbers.{length-digits}
-use Rattle.machine.specs.declared.Answer.{Answer}
 use Rattle.logline.specs.Labels.{labels, labelOf}
 use Rattle.logline.specs.LogLine.{numbers, logBody, logLine}
 use Rattle.logline.specs.Promises.{LabelsShort, LineFits}

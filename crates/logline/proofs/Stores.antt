@@ -1,6 +1,6 @@
 -- Runs of stores, `sets`: a run after a run, a run that ends with one more, and a turn of a loop that stores from the front.
 -- None asks that a store is within the list.
-use Prim.Native.Nat.{ℕ, zero, suc, _+_, _≤_, _<_}
+use Prim.Native.Nat.{ℕ, suc, _+_, _≤_, _<_}
 use mathlib.Core.Path.{_≡_, refl, sym, ap, _∙_}
 use mathlib.Core.List.{List, [], _∷_, _++_}
 use native.Mathlib.Nat.{add-zero, add-suc, suc-add, add-assoc}

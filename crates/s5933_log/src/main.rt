@@ -1,8 +1,9 @@
 // The log program: standard input, of any length, from reset with 4,096 zero words of memory at address 0, and its log to
-// standard output. What is answered is proved of `log`; here bytes are only brought in and out.
+// standard output. What a piece is answered is proved of `log`; that the pieces are fed in order, at start 0, is read here and tested.
 ghost use mathlib.Core.Path.{_≡_};
 ghost use mathlib.Core.Bool.{true};
 ghost use Rattle.log.specs.Results.{isWithin};
+use libc::STDERR_FILENO;
 use libc::STDIN_FILENO;
 use libc::STDOUT_FILENO;
 use log::Logged;
@@ -33,7 +34,10 @@ fn write(log: Logged, out: &[u8]) -> Went
             os::fail(b"s5933_log: write");
             Went::Failed
         }
-        Logged::NoRoom => Went::Failed,
+        Logged::NoRoom => {
+            io::write_all(STDERR_FILENO, b"s5933_log: no room for the log\n");
+            Went::Failed
+        }
     }
 }
 

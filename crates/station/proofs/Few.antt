@@ -1,6 +1,6 @@
 -- A run's log has at most 40 bytes for each line, so its length is a number of the C call.
 use Prim.Native.Nat.{ℕ, _*_, _≤_}
-use mathlib.Core.Path.{_≡_, refl, sym, _∙_}
+use mathlib.Core.Path.{_≡_, refl}
 use mathlib.Core.Bool.{Bool, true, false}
 use mathlib.Core.List.{List}
 use native.Mathlib.Omega.{arith}
@@ -9,7 +9,6 @@ use Rattle.machine.specs.State.{State}
 use Rattle.lines.specs.Lines.{lines}
 use Rattle.lines.proofs.Lines.{lines-few}
 use Rattle.logline.specs.LogLine.{lineRoom}
-use Rattle.log.specs.declared.Logged.{Logged}
 use Rattle.log.specs.declared.Logged.the-variants.{Written, NoRoom}
 use Rattle.log.specs.Log.{logOf, textTold}
 use Rattle.log.specs.Results.{isShort, runOf}

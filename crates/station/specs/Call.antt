@@ -2,9 +2,10 @@
 use Prim.Native.Nat.{ℕ}
 use mathlib.Core.Path.{_≡_}
 use mathlib.Core.List.{List, []}
-use mathlib.Core.Bool.{Bool, cond}
+use mathlib.Core.Bool.{Bool, true, false, cond}
 use lib.IntN.{ℤ, pos, negsuc}
-use lib.ListN.{length, replicate}
+use lib.ListN.{length}
+use Rattle.log.specs.Log.{zeroWords}
 use lib.Dec.{ltb}
 use Rattle.machine.specs.State.{resetState}
 use Rattle.log.specs.declared.Logged.{Logged}
@@ -13,7 +14,7 @@ use Rattle.log.specs.Results.{Run, runOf}
 
 -- "from reset, with 4,096 zero words of memory at address 0"
 unfoldable pub fromReset : List ℕ → List ℕ → Run
-fromReset input output = runOf resetState 0 (replicate 4096 0) input output
+fromReset input output = runOf resetState 0 zeroWords input output
 
 -- "if the input exceeds 1,048,576 bytes"
 unfoldable pub isTooLong : List ℕ → Bool
@@ -44,3 +45,7 @@ CallUnique = (input output : List ℕ) (r q : ℤ) (after also : List ℕ) → C
 -- `empty-call`: "Empty input gives 0", and no byte is written
 abbrev pub EmptyCall : Type 0
 EmptyCall = (output : List ℕ) → (resultOf [] output ≡ pos 0) × (outputOf [] output ≡ output)
+
+-- `input-limit`: 1,048,576 bytes are taken, one more is not
+abbrev pub InputLimit : Type 0
+InputLimit = (input : List ℕ) → (length input ≡ 1_048_576 → isTooLong input ≡ false) × (length input ≡ 1_048_577 → isTooLong input ≡ true)

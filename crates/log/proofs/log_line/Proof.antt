@@ -1,8 +1,6 @@
 use denote.Ref.{now}
-use mathlib.Core.Path.{_≡_, sym, ap, _∙_}
 use Rattle.logline.proofs.Room.{in-room}
-use Rattle.machine.specs.Step.{Outcome}
-use Rattle.log.specs.Log.{lineOutcome, toldOf}
+use Rattle.log.specs.Log.{toldOf}
 use Rattle.log.proofs.Told.{log-one}
 use borrow.Author.Needs.{needs}
 use Rattle.log.proofs.log_line.Statement.{statement}

@@ -1,4 +1,3 @@
-use mathlib.Core.Path.{refl}
 use Rattle.machine.specs.Step.{answered, notAFrame}
 use Rattle.controller.specs.Controller.{stateOf}
 use borrow.Author.Needs.{needs}

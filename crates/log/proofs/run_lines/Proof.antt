@@ -1,10 +1,9 @@
 use denote.Ref.{now}
-use mathlib.Core.Path.{_≡_, refl, sym, ap, _∙_}
+use mathlib.Core.Path.{_≡_, refl, ap, _∙_}
 use mathlib.Core.List.{List, [], _∷_, _++_}
 use Prim.Native.Nat.{ℕ, _+_, _-_, _*_, _≤_}
 use native.Mathlib.Omega.{arith}
 use lib.ListN.{length, drop}
-use Rattle.machine.specs.State.{State}
 use Rattle.machine.specs.declared.Answer.{Answer}
 use Rattle.controller.specs.Controller.{stateOf}
 use Rattle.lines.specs.Lines.{lines, lineAt, pastLine}

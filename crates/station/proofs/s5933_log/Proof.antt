@@ -1,14 +1,13 @@
 use Rattle.controller.specs.Controller.{stateOf}
 use denote.Ref.{now}
 use Prim.Native.Nat.{_<_, _^_}
-use mathlib.Core.Path.{_≡_, refl, sym, ap, _∙_}
+use mathlib.Core.Path.{_≡_, sym, ap, _∙_}
 use native.Mathlib.Omega.{arith}
 use borrow.Author.Tests.{lt-ltb, le-ltb}
 use lib.ListN.{replicate}
 use mir.Syntax.{w64}
 use mir.ValLaws.{toZ-pos}
 use Rattle.machine.specs.State.{resetState}
-use Rattle.log.specs.declared.Logged.the-variants.{Written, NoRoom}
 use Rattle.log.specs.Results.{Run, runOf}
 use Rattle.station.specs.Call.{isTooLong, fromReset, numberOf, resultOf, outputOf}
 use Rattle.station.proofs.Few.{few}

@@ -1,0 +1,204 @@
+/*
+ * station.c: the fault history of a frame file.
+ *
+ *   station FRAMES
+ *
+ * Runs the file's lines through the S5933 model and prints, for each code
+ * other than 0 that was answered, how often it was, and the line and the
+ * address of the first and of the last time. The history is kept by the
+ * code; the label is only shown.
+ */
+#include "s5933.h"
+
+#include <errno.h>
+#include <inttypes.h>
+#include <stdio.h>
+#include <stdlib.h>
+#include <string.h>
+
+/* A log line: code, address, data, enables, interrupt line, space, label. */
+enum {
+    CODE_AT = 0, CODE_DIGITS = 2,
+    ADDRESS_AT = 2, ADDRESS_DIGITS = 8,
+    SPACE_AT = 20, LABEL_AT = 21
+};
+
+/* Every number that two digits can say. */
+enum { CODES = 256, DONE = 0 };
+
+struct moment {
+    size_t line;
+    uint32_t address;
+};
+
+struct fault {
+    size_t times;
+    struct moment first, last;
+    const char *label;          /* for showing; not ended by a NUL */
+    int label_length;
+};
+
+struct history {
+    size_t lines;
+    struct fault of[CODES];     /* by the code */
+};
+
+static void complain(const char *what, const char *why)
+{
+    fprintf(stderr, "station: %s: %s\n", what, why);
+}
+
+/*
+ * Reads the file, but no more than one byte past the limit: that byte is
+ * enough for s5933_log to refuse. NULL, and said why, if it can't.
+ */
+static uint8_t *read_file(const char *name, size_t *length)
+{
+    const size_t most = (size_t)S5933_INPUT_MOST + 1;
+    uint8_t *bytes = malloc(most);
+    FILE *file = fopen(name, "rb");
+    int why = errno;
+
+    if (bytes != NULL && file != NULL) {
+        *length = fread(bytes, 1, most, file);
+        why = errno;
+        if (!ferror(file)) {
+            fclose(file);
+            return bytes;
+        }
+    }
+    complain(name, bytes == NULL ? "no memory" : strerror(why));
+    if (file != NULL)
+        fclose(file);
+    free(bytes);
+    return NULL;
+}
+
+/* The lines by the rule of the log: a last one without LF counts too. */
+static size_t count_lines(const uint8_t *bytes, size_t length)
+{
+    size_t lines = 0;
+
+    for (size_t i = 0; i < length; i++)
+        if (bytes[i] == '\n' || i == length - 1)
+            lines++;
+    return lines;
+}
+
+/* Reads upper-case hexadecimal digits; 0 if one of them is none. */
+static int read_digits(const char *text, int digits, uint32_t *number)
+{
+    static const char all[] = "0123456789ABCDEF";
+
+    *number = 0;
+    for (int i = 0; i < digits; i++) {
+        const char *at = memchr(all, text[i], 16);
+
+        if (at == NULL)
+            return 0;
+        *number = *number << 4 | (uint32_t)(at - all);
+    }
+    return 1;
+}
+
+/* Notes one log line of n bytes, without its LF; 0 if it isn't one. */
+static int note_line(struct history *h, const char *line, size_t n)
+{
+    struct moment now = { ++h->lines, 0 };
+    struct fault *fault;
+    uint32_t code;
+
+    if (n < LABEL_AT || n >= S5933_LINE_ROOM || line[SPACE_AT] != ' '
+        || !read_digits(line + CODE_AT, CODE_DIGITS, &code)
+        || !read_digits(line + ADDRESS_AT, ADDRESS_DIGITS, &now.address))
+        return 0;
+    fault = &h->of[code];
+    if (fault->times == 0) {
+        fault->first = now;
+        fault->label = line + LABEL_AT;
+        fault->label_length = (int)(n - LABEL_AT);
+    }
+    fault->last = now;
+    fault->times++;
+    return 1;
+}
+
+/* Notes the whole log; 0 if it isn't one. */
+static int note_log(struct history *h, const char *log, size_t length)
+{
+    for (size_t at = 0; at < length; ) {
+        const char *end = memchr(log + at, '\n', length - at);
+
+        if (end == NULL || !note_line(h, log + at, (size_t)(end - log) - at))
+            return 0;
+        at = (size_t)(end - log) + 1;
+    }
+    return 1;
+}
+
+static void show(const struct history *h)
+{
+    printf("lines %zu, done %zu, faults %zu\n", h->lines,
+           h->of[DONE].times, h->lines - h->of[DONE].times);
+    puts("code  times  first line   address  last line   address  label");
+    for (size_t code = DONE + 1; code < CODES; code++) {
+        const struct fault *f = &h->of[code];
+
+        if (f->times > 0)
+            printf("%4zu %6zu %11zu  %08" PRIX32 " %10zu  %08" PRIX32
+                   "  %.*s\n", code, f->times, f->first.line,
+                   f->first.address, f->last.line, f->last.address,
+                   f->label_length, f->label);
+    }
+}
+
+/* Runs the frames and shows their history; 0 if anything went wrong. */
+static int run(const char *name, const uint8_t *frames, size_t length)
+{
+    static struct history history;
+    size_t room = count_lines(frames, length) * S5933_LINE_ROOM;
+    uint8_t *log = malloc(room + 1);    /* never none: no null pointer */
+    int64_t written;
+    int good = 0;
+
+    if (log == NULL) {
+        complain(name, "no memory for the log");
+        return 0;
+    }
+    written = s5933_log(frames, length, log, room);
+    if (written == S5933_INPUT_TOO_LONG)
+        complain(name, "longer than 1048576 bytes");
+    else if (written == S5933_NO_ROOM)
+        complain(name, "too little room for the log");
+    else if (written < 0 || (uint64_t)written > room
+             || !note_log(&history, (const char *)log, (size_t)written))
+        complain(name, "the log is not as it should be");
+    else
+        good = 1;
+    if (good)
+        show(&history);
+    free(log);
+    return good;
+}
+
+int main(int argc, char **argv)
+{
+    uint8_t *frames;
+    size_t length = 0;
+    int good;
+
+    if (argc != 2) {
+        fputs("usage: station FRAMES\n", stderr);
+        return 2;
+    }
+    frames = read_file(argv[1], &length);
+    if (frames == NULL)
+        return 1;
+    good = run(argv[1], frames, length);
+    free(frames);
+    if (fflush(stdout) != 0 || ferror(stdout)) {
+        complain("standard output", strerror(errno));
+        return 1;
+    }
+    return good ? 0 : 1;
+}

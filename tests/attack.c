@@ -1,0 +1,459 @@
+/* attack.c: the C call with its buffers against guard pages.
+ *
+ *   attack [FRAMES...]
+ *
+ * What each call has to return and write is worked out here, line by line,
+ * over the second program's model. The input lies in pages that can't be
+ * written during the call, the output in pages filled with a pattern; each
+ * stands at the end or at the start of its pages, next to a page that
+ * can't be touched. After the call every byte of the output's pages is
+ * compared: the log, and the pattern everywhere else. */
+#define _GNU_SOURCE
+#include "s5933.h"
+#include "model.h"
+
+#include <signal.h>
+#include <stdio.h>
+#include <stdlib.h>
+#include <string.h>
+#include <sys/mman.h>
+#include <unistd.h>
+
+enum {
+    PAGE = 4096, GUARD = 16 * PAGE,
+    FRAME_DIGITS = 13, MEMORY_WORDS = 4096,
+    OUTPUT_MOST = S5933_INPUT_MOST * S5933_LINE_ROOM + 1,
+    PATTERN_PERIOD = 251, PATTERN_SIZE = OUTPUT_MOST + PAGE + PATTERN_PERIOD,
+    SIZES = 4
+};
+
+/* Pages between two guards. */
+struct pages {
+    uint8_t *start;
+    size_t size;
+};
+
+/* An input, and what document 01 asks for. */
+struct text {
+    const char *name;
+    const uint8_t *bytes;
+    size_t length, lines;
+    uint8_t *log;
+    size_t log_length;
+};
+
+/* Where a buffer stands in its pages. */
+enum place { AT_START, AT_END, PLACES };
+
+/* Pages of several sizes, so that a small buffer costs little. */
+static const size_t sizes[SIZES] = { PAGE, 1 << 16, 1 << 22, OUTPUT_MOST };
+static struct pages inputs[SIZES], outputs[SIZES];
+static uint8_t *pattern;        /* longer than any output by a period */
+static unsigned long calls;
+static char current[128];       /* the call under way */
+
+/* ---- failing ---- */
+
+static void on_fault(int signal)
+{
+    static const char message[] = "attack: memory fault in ";
+    ssize_t n = write(STDOUT_FILENO, message, sizeof message - 1);
+
+    (void)signal;
+    n += write(STDOUT_FILENO, current, strlen(current));
+    n += write(STDOUT_FILENO, "\n", 1);
+    _exit(n > 0 ? 1 : 2);
+}
+
+static void fail(const char *what)
+{
+    printf("attack: %s: %s\n", current, what);
+    exit(1);
+}
+
+static void *must(void *got)
+{
+    if (got == NULL || got == MAP_FAILED) {
+        perror("attack");
+        exit(2);
+    }
+    return got;
+}
+
+static void protect(const struct pages *p, int access)
+{
+    if (mprotect(p->start, p->size, access) != 0) {
+        perror("attack");
+        exit(2);
+    }
+}
+
+static struct pages new_pages(size_t bytes)
+{
+    size_t size = (bytes + PAGE - 1) / PAGE * PAGE;
+    uint8_t *all = must(mmap(NULL, size + 2 * GUARD, PROT_NONE,
+                             MAP_PRIVATE | MAP_ANONYMOUS, -1, 0));
+    struct pages p = { all + GUARD, size };
+
+    protect(&p, PROT_READ | PROT_WRITE);
+    return p;
+}
+
+/* ---- what document 01 asks for ---- */
+
+/* The length of the first line, without its LF. */
+static size_t line_length(const uint8_t *bytes, size_t n)
+{
+    const uint8_t *lf = memchr(bytes, '\n', n);
+
+    return lf == NULL ? n : (size_t)(lf - bytes);
+}
+
+static size_t count_lines(const uint8_t *bytes, size_t n)
+{
+    size_t lines = 0;
+
+    for (size_t i = 0; i < n; i++)
+        lines += bytes[i] == '\n';
+    return lines + (n > 0 && bytes[n - 1] != '\n');
+}
+
+static bool digits(const uint8_t *text, int n, uint32_t *number)
+{
+    *number = 0;
+    for (int i = 0; i < n; i++) {
+        uint32_t digit;
+
+        if (text[i] >= '0' && text[i] <= '9')
+            digit = text[i] - (uint32_t)'0';
+        else if (text[i] >= 'A' && text[i] <= 'F')
+            digit = text[i] - (uint32_t)'A' + 10;
+        else
+            return false;
+        *number = *number * 16 + digit;
+    }
+    return true;
+}
+
+static bool is_frame(const uint8_t *line, size_t n, struct step *s)
+{
+    return n == FRAME_DIGITS
+        && digits(line, 2, &s->kind) && digits(line + 2, 2, &s->offset)
+        && digits(line + 4, 1, &s->enables) && digits(line + 5, 8, &s->data);
+}
+
+/* Writes the log of a text that is not too long; gives its length. */
+static size_t write_log(const uint8_t *bytes, size_t n, uint8_t *log)
+{
+    static uint32_t memory[MEMORY_WORDS];
+    struct window window = { memory, 0, MEMORY_WORDS };
+    struct controller chip;
+    size_t used = 0;
+
+    memset(memory, 0, sizeof memory);
+    model_reset(&chip);
+    for (size_t at = 0; at < n; ) {
+        size_t line = line_length(bytes + at, n - at);
+        char text[S5933_LINE_ROOM + 1];
+        struct answer a;
+        struct step s;
+
+        if (is_frame(bytes + at, line, &s))
+            a = model_step(&chip, &window, &s);
+        else
+            a = (struct answer){ .code = NOT_A_FRAME_LINE,
+                                 .line = model_line(&chip) };
+        used += (size_t)sprintf(text, "%02X%08X%08X%X%X %s\n",
+                                (unsigned)a.code, (unsigned)a.address,
+                                (unsigned)a.data, (unsigned)a.enables,
+                                (unsigned)a.line, model_label[a.code]);
+        memcpy(log + used - strlen(text), text, strlen(text));
+        at += line + 1;
+    }
+    return used;
+}
+
+static struct text new_text(const char *name, const uint8_t *bytes,
+                            size_t length)
+{
+    struct text t = { .name = name, .bytes = bytes, .length = length };
+
+    t.lines = count_lines(bytes, length);
+    t.log = must(malloc(t.lines * S5933_LINE_ROOM + 1));
+    if (length <= S5933_INPUT_MOST)
+        t.log_length = write_log(bytes, length, t.log);
+    return t;
+}
+
+/* ---- a call ---- */
+
+static const struct pages *fitting(const struct pages *p, size_t n)
+{
+    while (p->size < n)
+        p++;
+    return p;
+}
+
+static uint8_t *placed(const struct pages *p, enum place where, size_t n)
+{
+    return where == AT_START ? p->start : p->start + p->size - n;
+}
+
+static int64_t wanted(const struct text *t, size_t output_length)
+{
+    if (t->length > S5933_INPUT_MOST)
+        return -2;
+    if (output_length < 40 * t->lines)
+        return -1;
+    return (int64_t)t->log_length;
+}
+
+/* Every byte of the output's pages: the log from its place on, the pattern
+ * elsewhere. */
+static void compare(const struct pages *out, const uint8_t *fill,
+                    const uint8_t *output, const struct text *t,
+                    int64_t returned)
+{
+    size_t before = (size_t)(output - out->start);
+    size_t log = returned < 0 ? 0 : (size_t)returned;
+    size_t after = before + log;
+
+    if (memcmp(out->start, fill, before) != 0)
+        fail("a byte before the output changed");
+    if (memcmp(output, t->log, log) != 0)
+        fail("another log");
+    if (memcmp(out->start + after, fill + after, out->size - after) != 0)
+        fail("a byte past the log changed");
+}
+
+static void call(const struct text *t, enum place in_place,
+                 enum place out_place, size_t output_length)
+{
+    const struct pages *in = fitting(inputs, t->length);
+    const struct pages *out = fitting(outputs, output_length);
+    const uint8_t *fill = pattern + calls % PATTERN_PERIOD;
+    uint8_t *input = placed(in, in_place, t->length);
+    uint8_t *output = placed(out, out_place, output_length);
+    int64_t returned;
+
+    snprintf(current, sizeof current, "%s: input %zu at its pages' %s, "
+             "output %zu at its pages' %s", t->name, t->length,
+             in_place == AT_START ? "start" : "end", output_length,
+             out_place == AT_START ? "start" : "end");
+    memcpy(input, t->bytes, t->length);
+    protect(in, PROT_READ);
+    memcpy(out->start, fill, out->size);
+    returned = s5933_log(input, t->length, output, output_length);
+    calls++;
+    if (returned != wanted(t, output_length)) {
+        printf("returned %lld, wanted %lld\n", (long long)returned,
+               (long long)wanted(t, output_length));
+        fail("another return value");
+    }
+    compare(out, fill, output, t, returned);
+    protect(in, PROT_READ | PROT_WRITE);
+}
+
+static void call_placed(const struct text *t, size_t output_length)
+{
+    for (enum place in = AT_START; in < PLACES; in++)
+        for (enum place out = AT_START; out < PLACES; out++)
+            call(t, in, out, output_length);
+}
+
+/* None, too short by one, exactly enough, more than enough. */
+static void call_edges(const struct text *t)
+{
+    size_t enough = t->lines * S5933_LINE_ROOM;
+
+    call_placed(t, 0);
+    if (enough > 0)
+        call_placed(t, enough - 1);
+    call_placed(t, enough);
+    call_placed(t, enough + 1);
+}
+
+static void attack(const char *name, const uint8_t *bytes, size_t length)
+{
+    struct text t = new_text(name, bytes, length);
+
+    call_edges(&t);
+    free(t.log);
+}
+
+/* ---- inputs ---- */
+
+static uint32_t random32(void)
+{
+    static uint64_t state = 5933;
+
+    state = state * UINT64_C(6364136223846793005)
+          + UINT64_C(1442695040888963407);
+    return (uint32_t)(state >> 32);
+}
+
+/* Lines of several sorts, the last one without LF. */
+static const uint8_t mixed[] =
+    "03101000000A5\n0034F00000000\n\nxyz\n0520F00000000\n013CF00004400\n"
+    "0124F00004000\n0128F00000004\n0320F12345678\n0400000000000\n"
+    "0400000000000\n0138F00100000\n\r\n0620F000000000\n0a34F00000000\n"
+    "FF00000000000\n00100000000\n0010100000000";
+
+/* A text on every output length up to a line more than it needs. */
+static void every_output(const uint8_t *bytes, size_t length)
+{
+    struct text t = new_text("every output", bytes, length);
+
+    for (size_t n = 0; n <= (t.lines + 1) * S5933_LINE_ROOM + 1; n++)
+        call_placed(&t, n);
+    free(t.log);
+}
+
+/* The first lines of the mixed text, with the last LF and without it. */
+static void every_output_length(void)
+{
+    size_t length = 0;
+
+    every_output(mixed, 0);
+    for (int lines = 1; lines <= 6; lines++) {
+        length += line_length(mixed + length, sizeof mixed - 1 - length) + 1;
+        every_output(mixed, length - 1);
+        every_output(mixed, length);
+    }
+}
+
+/* The mixed text cut off after each of its bytes. */
+static void every_input_length(void)
+{
+    for (size_t n = 0; n < sizeof mixed; n++)
+        attack("every input", mixed, n);
+}
+
+/* Looks at registers and memory, then changes them: a call that kept any
+ * of it for the next call would answer that one differently. */
+static void nothing_kept(void)
+{
+    static const uint8_t text[] =
+        "0000F00000000\n0210F00000000\n0024F00000000\n0028F00000000\n"
+        "002CF00000000\n0030F00000000\n0034F00000000\n0038F00000000\n"
+        "003CF00000000\n0020F00000000\n0220F00000000\n013CF00004400\n"
+        "0130F00000004\n0500000000000\n0220F00000000\n0100F11111111\n"
+        "0310F22222222\n0128F00000004\n0320F33333333\n0400000000000\n"
+        "0124F00000008\n0128F0000000C\n0130F00000010\n0320F44444444\n"
+        "0120F55555555\n0138F0000DF1F\n";
+
+    attack("nothing kept", text, sizeof text - 1);
+}
+
+static void fill_random(uint8_t *bytes, size_t n, int sort)
+{
+    static const char few[] = "0123456789ABCDEF\n0123F000000000\n\nf ";
+    size_t at = 0;
+
+    while (at < n) {
+        uint8_t byte = (uint8_t)random32();
+
+        if (sort == 0)
+            bytes[at++] = byte;
+        else if (sort == 1)
+            bytes[at++] = (uint8_t)few[byte % (sizeof few - 1)];
+        else if (n - at >= FRAME_DIGITS + 1)
+            at += (size_t)snprintf((char *)bytes + at, n - at + 1,
+                                   "%02X%02X%X%08X\n", byte % 8u,
+                                   random32() % 17 * 4, random32() % 16 | 3,
+                                   (unsigned)random32());
+        else
+            bytes[at++] = '\n';
+    }
+}
+
+/* Any bytes, digits with LFs, and frames. */
+static void random_texts(void)
+{
+    static uint8_t bytes[1500];
+
+    for (int i = 0; i < 300; i++) {
+        size_t n = random32() % sizeof bytes;
+
+        fill_random(bytes, n, i % 3);
+        attack("random", bytes, n);
+    }
+}
+
+/* As many lines as there can be. */
+static void only_lfs(const uint8_t *bytes)
+{
+    struct text t = new_text("LFs, most", bytes, S5933_INPUT_MOST);
+    size_t enough = t.lines * S5933_LINE_ROOM;
+
+    call(&t, AT_END, AT_END, enough - 1);
+    call(&t, AT_END, AT_END, enough);
+    call(&t, AT_START, AT_START, enough);
+    free(t.log);
+}
+
+/* The longest input and one byte more: of one line, of LFs only, of any
+ * bytes, of digits with LFs, and of frames. */
+static void limits(void)
+{
+    uint8_t *bytes = must(malloc(S5933_INPUT_MOST + 2));
+
+    memset(bytes, 'A', S5933_INPUT_MOST + 1);
+    attack("one line, most", bytes, S5933_INPUT_MOST);
+    attack("one line, too long", bytes, S5933_INPUT_MOST + 1);
+    memset(bytes, '\n', S5933_INPUT_MOST + 1);
+    attack("LFs, too long", bytes, S5933_INPUT_MOST + 1);
+    only_lfs(bytes);
+    for (int sort = 0; sort < 3; sort++) {
+        fill_random(bytes, S5933_INPUT_MOST + 1, sort);
+        attack("random, most", bytes, S5933_INPUT_MOST);
+        attack("random, too long", bytes, S5933_INPUT_MOST + 1);
+    }
+    free(bytes);
+}
+
+/* A frame file, whole and without its last byte. */
+static void frame_file(const char *name)
+{
+    uint8_t *bytes = must(malloc(S5933_INPUT_MOST + 1));
+    FILE *file = must(fopen(name, "rb"));
+    size_t n = fread(bytes, 1, S5933_INPUT_MOST + 1, file);
+
+    if (ferror(file) || n == 0 || n > S5933_INPUT_MOST) {
+        printf("attack: %s can't be read, is empty or too long\n", name);
+        exit(2);
+    }
+    fclose(file);
+    attack(name, bytes, n);
+    attack(name, bytes, n - 1);
+    free(bytes);
+}
+
+static void set_up(void)
+{
+    struct sigaction action = { .sa_handler = on_fault };
+
+    sigaction(SIGSEGV, &action, NULL);
+    sigaction(SIGBUS, &action, NULL);
+    for (int i = 0; i < SIZES; i++) {
+        inputs[i] = new_pages(sizes[i]);
+        outputs[i] = new_pages(sizes[i]);
+    }
+    pattern = must(malloc(PATTERN_SIZE));
+    for (size_t i = 0; i < PATTERN_SIZE; i++)
+        pattern[i] = (uint8_t)(i % PATTERN_PERIOD);
+}
+
+int main(int argc, char **argv)
+{
+    set_up();
+    every_output_length();
+    every_input_length();
+    nothing_kept();
+    random_texts();
+    limits();
+    for (int i = 1; i < argc; i++)
+        frame_file(argv[i]);
+    printf("attack: %lu calls\n", calls);
+    return 0;
+}

@@ -1,0 +1,152 @@
+/* examples.c: the ten marked examples of document 01, over the model.
+ * Part of the second program, written from document 01 alone. */
+#include "model.h"
+
+#include <stdio.h>
+#include <string.h>
+
+enum { MEMORY_WORDS = 4096 };
+
+static struct controller chip;
+static uint32_t memory[MEMORY_WORDS];
+static struct window window = { memory, 0, MEMORY_WORDS };
+static int failures;
+
+static void from_reset(void)
+{
+    model_reset(&chip);
+    memset(memory, 0, sizeof memory);
+}
+
+static struct answer step(uint32_t kind, uint32_t offset, uint32_t enables,
+                          uint32_t data)
+{
+    struct step s = { kind, offset, enables, data };
+
+    return model_step(&chip, &window, &s);
+}
+
+static uint32_t pci_read(uint32_t offset)
+{
+    return step(PCI_READ, offset, 15, 0).data;
+}
+
+static void pci_write(uint32_t offset, uint32_t data)
+{
+    step(PCI_WRITE, offset, 15, data);
+}
+
+static void expect(int example, uint32_t is, uint32_t should)
+{
+    if (is == should)
+        return;
+    printf("example %d: %08X, not %08X\n", example, (unsigned)is,
+           (unsigned)should);
+    failures++;
+}
+
+static void registers(void)
+{
+    from_reset();
+    expect(1, pci_read(0x3C), 0x000000E6);
+    from_reset();
+    pci_write(0x38, 0xFFFFFFFF);
+    expect(2, pci_read(0x38), 0x0000DF1F);
+    from_reset();
+    pci_write(0x3C, 0x0000FFFF);
+    expect(3, pci_read(0x3C), 0x0000F7E6);
+    from_reset();
+    pci_write(0x28, 0xFFFFFFFF);
+    expect(4, pci_read(0x28), 0x03FFFFFF);
+    pci_write(0x24, 0xFFFFFFFF);
+    expect(4, pci_read(0x24), 0xFFFFFFFC);
+}
+
+/* Fills one FIFO by its port, reads one word, and writes once more. */
+static void eight_words(uint32_t writer, uint32_t reader)
+{
+    struct answer a;
+
+    from_reset();
+    for (uint32_t i = 0; i < 8; i++)
+        expect(5, step(writer, 0x20, 15, 0x1000 + i).code, DONE);
+    expect(5, step(writer, 0x20, 15, 9).code, FIFO_FULL_OR_EMPTY);
+    a = step(reader, 0x20, 15, 0);
+    expect(5, a.code, DONE);
+    expect(5, a.data, 0x1000);
+    expect(5, step(writer, 0x20, 15, 10).code, DONE);
+}
+
+static void mailbox(void)
+{
+    from_reset();
+    expect(6, step(ADDON_WRITE, 0x10, 1, 0xA5).code, DONE);
+    expect(6, pci_read(0x34), 0x00010000);
+    expect(6, step(PCI_READ, 0x10, 1, 0).data, 0xA5);
+    expect(6, pci_read(0x34), 0);
+}
+
+static void write_cycles(void)
+{
+    from_reset();
+    memory[0x104 / 4] = 0xAAAAAAAA;
+    pci_write(0x24, 0x100);
+    pci_write(0x28, 5);
+    pci_write(0x3C, 0x400);
+    step(ADDON_WRITE, 0x20, 15, 0x11223344);
+    step(ADDON_WRITE, 0x20, 15, 0x55667788);
+    expect(7, step(WRITE_CYCLE, 0, 0, 0).code, DONE);
+    expect(7, step(WRITE_CYCLE, 0, 0, 0).code, DONE);
+    expect(7, memory[0x100 / 4], 0x11223344);
+    expect(7, memory[0x104 / 4], 0xAAAAAA88);
+    expect(7, pci_read(0x28), 0);
+    expect(7, pci_read(0x24), 0x108);
+    expect(7, pci_read(0x38), 0x00040000);
+    expect(8, step(WRITE_CYCLE, 0, 0, 0).code, COUNT_IS_ZERO);
+}
+
+/* Sets up count 4 and a word held at the address. */
+static void one_word_at(uint32_t address)
+{
+    from_reset();
+    pci_write(0x24, address);
+    pci_write(0x28, 4);
+    pci_write(0x3C, 0x400);
+    step(ADDON_WRITE, 0x20, 15, 0x12345678);
+}
+
+static void edge_of_memory(void)
+{
+    one_word_at(0x3FFC);
+    expect(9, step(WRITE_CYCLE, 0, 0, 0).code, DONE);
+    one_word_at(0x4000);
+    expect(9, step(WRITE_CYCLE, 0, 0, 0).code, NO_MEMORY_THERE);
+    expect(9, step(WRITE_CYCLE, 0, 0, 0).code, ABORT_STANDS);
+    pci_write(0x38, 0x00100000);
+    expect(9, step(WRITE_CYCLE, 0, 0, 0).code, NO_MEMORY_THERE);
+}
+
+static void threshold(void)
+{
+    from_reset();
+    pci_write(0x3C, 0x600);
+    pci_write(0x28, 16);
+    for (uint32_t i = 0; i < 3; i++)
+        step(ADDON_WRITE, 0x20, 15, i);
+    expect(10, step(WRITE_CYCLE, 0, 0, 0).code, FIFO_NOT_READY);
+    step(ADDON_WRITE, 0x20, 15, 3);
+    expect(10, step(WRITE_CYCLE, 0, 0, 0).code, DONE);
+}
+
+int main(void)
+{
+    registers();
+    eight_words(PCI_WRITE, ADDON_READ);
+    eight_words(ADDON_WRITE, PCI_READ);
+    mailbox();
+    write_cycles();
+    edge_of_memory();
+    threshold();
+    printf("examples: %d failures\n", failures);
+    return failures == 0 ? 0 : 1;
+}

@@ -1,0 +1,876 @@
+/* generate.c: frames for testing, the same for the same seed.
+ * Part of the second program, written from document 01 alone.
+ *
+ *   generate PROFILE SEED COUNT > frames    COUNT is the number of lines
+ *
+ * The generator follows the run with the model, so that it knows the state
+ * reached and can steer into full, empty, aborted and finished states. */
+#include "model.h"
+
+#include <inttypes.h>
+#include <stdio.h>
+#include <stdlib.h>
+#include <string.h>
+
+#define UPPER "%02X%02X%X%08X"
+#define LOWER "%02x%02x%x%08x"
+
+enum { MEMORY_WORDS = 4096, LONG_LINE_MAX = 100000 };
+
+struct generator {
+    uint64_t random;            /* state of the random numbers */
+    uint64_t left;              /* lines still to be written */
+    uint64_t turn;              /* for walks through all of a set */
+    bool open_end;              /* the last line has no LF */
+    struct controller chip;
+    struct window window;
+    uint32_t memory[MEMORY_WORDS];
+};
+
+typedef void move(struct generator *g);
+
+/* ---- random numbers: splitmix64 ----
+ * No argument list or expression draws twice without an order between the
+ * draws, so that every compiler gives the same frames. */
+
+static uint64_t random64(struct generator *g)
+{
+    uint64_t z = g->random += UINT64_C(0x9E3779B97F4A7C15);
+
+    z = (z ^ z >> 30) * UINT64_C(0xBF58476D1CE4E5B9);
+    z = (z ^ z >> 27) * UINT64_C(0x94D049BB133111EB);
+    return z ^ z >> 31;
+}
+
+static uint32_t random32(struct generator *g)
+{
+    return (uint32_t)(random64(g) >> 32);
+}
+
+/* 0 to n - 1 */
+static uint32_t below(struct generator *g, uint32_t n)
+{
+    return (uint32_t)((uint64_t)random32(g) * n >> 32);
+}
+
+static bool one_in(struct generator *g, uint32_t n)
+{
+    return below(g, n) == 0;
+}
+
+/* Data of several sorts: random, single bits, all but one bit, extremes. */
+static uint32_t some_data(struct generator *g)
+{
+    switch (below(g, 6)) {
+    case 0:  return UINT32_C(1) << below(g, 32);
+    case 1:  return ~(UINT32_C(1) << below(g, 32));
+    case 2:  return one_in(g, 2) ? 0xFFFFFFFF : 0;
+    default: return random32(g);
+    }
+}
+
+/* Mostly 15, else any. */
+static uint32_t some_enables(struct generator *g)
+{
+    return one_in(g, 3) ? below(g, 16) : 15;
+}
+
+/* ---- writing lines ---- */
+
+/* Ends a line of n bytes; only the last one may go without LF. */
+static void end_line(struct generator *g, size_t n)
+{
+    g->left--;
+    if (g->left > 0 || !g->open_end || n == 0)
+        putchar('\n');
+}
+
+/* Writes one frame and makes its step; nothing once COUNT is reached. */
+static void frame(struct generator *g, uint32_t kind, uint32_t offset,
+                  uint32_t enables, uint32_t data)
+{
+    struct step s = { kind, offset, enables, data };
+
+    if (g->left == 0)
+        return;
+    printf(UPPER, (unsigned)kind, (unsigned)offset, (unsigned)enables,
+           (unsigned)data);
+    end_line(g, 13);
+    model_step(&g->chip, &g->window, &s);
+}
+
+/* Writes a line that is no frame. */
+static void raw_line(struct generator *g, const char *bytes, size_t n)
+{
+    if (g->left == 0)
+        return;
+    fwrite(bytes, 1, n, stdout);
+    end_line(g, n);
+}
+
+/* A read; its data is ignored and so may be anything. */
+static void read_frame(struct generator *g, uint32_t kind, uint32_t offset,
+                       uint32_t enables)
+{
+    frame(g, kind, offset, enables, random32(g));
+}
+
+static void write_frame(struct generator *g, uint32_t kind, uint32_t offset,
+                        uint32_t enables)
+{
+    frame(g, kind, offset, enables, some_data(g));
+}
+
+/* A cycle or reset; its other numbers are ignored and may be anything. */
+static void plain_frame(struct generator *g, uint32_t kind)
+{
+    uint32_t offset = below(g, 256);
+    uint32_t enables = below(g, 16);
+
+    frame(g, kind, offset, enables, random32(g));
+}
+
+static void pci_read(struct generator *g, uint32_t place)
+{
+    read_frame(g, PCI_READ, 4 * place, some_enables(g));
+}
+
+static void pci_write(struct generator *g, uint32_t place, uint32_t data)
+{
+    frame(g, PCI_WRITE, 4 * place, 15, data);
+}
+
+/* Reads every register that shows state without changing it. */
+static void look(struct generator *g)
+{
+    for (uint32_t place = 0; place < 4; place++)
+        frame(g, PCI_READ, 4 * place, 15, 0);
+    for (uint32_t place = 4; place < 8; place++)
+        frame(g, ADDON_READ, 4 * place, 15, 0);
+    for (uint32_t place = WRITE_ADDRESS; place < REGISTERS; place++)
+        frame(g, PCI_READ, 4 * place, 15, 0);
+    frame(g, ADDON_READ, 4 * MAIL_STATUS, 15, 0);
+}
+
+/* Reads all registers of both sides, with what that changes. */
+static void read_everything(struct generator *g)
+{
+    for (uint32_t place = 0; place < REGISTERS; place++)
+        pci_read(g, place);
+    for (uint32_t place = 0; place < REGISTERS; place++)
+        if (ADDON_TABLE >> place & 1)
+            frame(g, ADDON_READ, 4 * place, some_enables(g), 0);
+}
+
+/* ---- registers ---- */
+
+/* Walks through all registers of both sides with all enables. */
+static void registers_move(struct generator *g)
+{
+    uint32_t turn = (uint32_t)(g->turn++ % (32 * 16));
+    uint32_t place = turn % REGISTERS;
+    bool pci = turn / REGISTERS % 2 == 0;
+    uint32_t enables = turn / 32;
+
+    if (!pci && !(ADDON_TABLE >> place & 1))
+        pci = true;
+    write_frame(g, pci ? PCI_WRITE : ADDON_WRITE, 4 * place, enables);
+    pci_read(g, place);
+    if (ADDON_TABLE >> place & 1)
+        read_frame(g, ADDON_READ, 4 * place, below(g, 16));
+    frame(g, pci ? PCI_READ : ADDON_READ, 4 * place, 15 - enables, 0);
+    if (one_in(g, 8))
+        look(g);
+    if (one_in(g, 12))
+        read_everything(g);
+}
+
+/* ---- mailboxes ---- */
+
+static void mail_traffic(struct generator *g)
+{
+    uint32_t offset = 4 * below(g, 4);
+    uint32_t enables = below(g, 16);
+    bool stray = one_in(g, 12); /* a write to the side's read-only half */
+
+    switch (below(g, 8)) {
+    case 0:
+        write_frame(g, PCI_WRITE, offset + (stray ? 0x10 : 0), enables);
+        break;
+    case 1:
+        write_frame(g, ADDON_WRITE, offset + (stray ? 0 : 0x10), enables);
+        break;
+    case 2:
+        read_frame(g, ADDON_READ, offset, enables);
+        break;
+    case 3:
+        read_frame(g, PCI_READ, 0x10 + offset, enables);
+        break;
+    case 4:
+        read_frame(g, PCI_READ, offset, enables);
+        break;
+    case 5:
+        read_frame(g, ADDON_READ, 0x10 + offset, enables);
+        break;
+    case 6:
+        read_frame(g, ADDON_READ, 0x34, some_enables(g));
+        break;
+    default:
+        read_frame(g, PCI_READ, 0x34, some_enables(g));
+    }
+}
+
+/* Clears flags with written ones: the right ones, others, or too few bytes. */
+static void clear_flags(struct generator *g)
+{
+    uint32_t kept = g->chip.intcsr & 0xFFFF;
+    uint32_t ones = one_in(g, 3) ? random32(g) & 0x003F0000
+                                 : g->chip.intcsr & 0x003F0000;
+
+    frame(g, PCI_WRITE, 0x38, one_in(g, 4) ? below(g, 16) : 15,
+          ones | kept);
+    frame(g, PCI_READ, 0x38, 15, 0);
+}
+
+/* Chooses a byte for one event, then touches it, or one beside it. */
+static void mail_event(struct generator *g)
+{
+    uint32_t turn = (uint32_t)(g->turn++);
+    bool incoming = turn % 2 != 0;
+    uint32_t choice = turn / 2 % 16;
+    uint32_t on = one_in(g, 4) ? 0 : 0x10;
+    uint32_t byte = one_in(g, 4) ? below(g, 4) : choice % 4;
+    uint32_t box = one_in(g, 4) ? below(g, 4) : choice / 4;
+    uint32_t enables = one_in(g, 3) ? below(g, 16) : UINT32_C(1) << byte;
+    uint32_t bits = on | choice;
+    uint32_t other = random32(g) & 0x1F;
+
+    pci_write(g, INTCSR, incoming ? bits << 8 | other : other << 8 | bits);
+    if (one_in(g, 2))
+        write_frame(g, PCI_WRITE, 4 * box, enables);
+    if (incoming)
+        write_frame(g, ADDON_WRITE, 0x10 + 4 * box, enables);
+    else
+        frame(g, ADDON_READ, 4 * box, enables, 0);
+    frame(g, PCI_READ, 0x38, 15, 0);
+    if (one_in(g, 3))
+        frame(g, PCI_WRITE, 0x38, 3, random32(g) & 0x1F1F);
+    if (one_in(g, 2))
+        clear_flags(g);
+}
+
+static void mailboxes_move(struct generator *g)
+{
+    switch (below(g, 8)) {
+    case 0:
+    case 1:
+        mail_event(g);
+        break;
+    case 2:
+        if (one_in(g, 6))
+            frame(g, PCI_WRITE, 0x3C, some_enables(g), 0x08000000);
+        frame(g, PCI_READ, 0x34, 15, 0);
+        break;
+    case 3:
+        if (one_in(g, 4))
+            look(g);
+        break;
+    default:
+        for (uint32_t n = below(g, 6); n > 0; n--)
+            mail_traffic(g);
+    }
+}
+
+/* ---- FIFOs ---- */
+
+static void port_write(struct generator *g, bool pci, uint32_t enables)
+{
+    write_frame(g, pci ? PCI_WRITE : ADDON_WRITE, 0x20, enables);
+}
+
+static void port_read(struct generator *g, bool pci, uint32_t enables)
+{
+    read_frame(g, pci ? PCI_READ : ADDON_READ, 0x20, enables);
+}
+
+static void some_port(struct generator *g)
+{
+    uint32_t enables = one_in(g, 8) ? below(g, 16) : 15;
+
+    if (one_in(g, 2))
+        port_write(g, one_in(g, 2), enables);
+    else
+        port_read(g, one_in(g, 2), enables);
+}
+
+/* Writes until the FIFO is full, and once or more beyond. */
+static void drive_full(struct generator *g, bool pci)
+{
+    const struct fifo *f = pci ? &g->chip.to_addon : &g->chip.to_pci;
+
+    while (f->fill < FIFO_WORDS && g->left > 0) {
+        port_write(g, pci, 15);
+        if (one_in(g, 3))
+            frame(g, PCI_READ, 0x3C, 15, 0);
+        if (one_in(g, 10))
+            port_read(g, !pci, 15);
+    }
+    for (uint32_t n = 1 + below(g, 2); n > 0; n--)
+        port_write(g, pci, one_in(g, 6) ? below(g, 16) : 15);
+    frame(g, PCI_READ, 0x3C, 15, 0);
+}
+
+/* Reads until the FIFO is empty, and once or more beyond. */
+static void drive_empty(struct generator *g, bool pci)
+{
+    const struct fifo *f = pci ? &g->chip.to_pci : &g->chip.to_addon;
+
+    while (f->fill > 0 && g->left > 0) {
+        port_read(g, pci, 15);
+        if (one_in(g, 3))
+            frame(g, PCI_READ, 0x3C, 15, 0);
+        if (one_in(g, 10))
+            port_write(g, !pci, 15);
+    }
+    for (uint32_t n = 1 + below(g, 2); n > 0; n--)
+        port_read(g, pci, one_in(g, 6) ? below(g, 16) : 15);
+    frame(g, PCI_READ, 0x3C, 15, 0);
+}
+
+/* MCSR bits 25 to 27 as written ones, sometimes without byte 3. */
+static void clear_by_mcsr(struct generator *g)
+{
+    uint32_t ones = below(g, 8) << 25;
+    uint32_t enables = one_in(g, 4) ? below(g, 16) : 8 + below(g, 8);
+
+    frame(g, PCI_WRITE, 0x3C, enables, ones | (g->chip.mcsr & 0xFF00));
+    frame(g, PCI_READ, 0x3C, 15, 0);
+}
+
+static void fifos_move(struct generator *g)
+{
+    switch (below(g, 8)) {
+    case 0:
+        drive_full(g, one_in(g, 2));
+        break;
+    case 1:
+        drive_empty(g, one_in(g, 2));
+        break;
+    case 2:
+        if (one_in(g, 3))
+            clear_by_mcsr(g);
+        break;
+    case 3:
+        frame(g, PCI_READ, 0x3C, some_enables(g), 0);
+        break;
+    default:
+        for (uint32_t n = 1 + below(g, 8); n > 0; n--)
+            some_port(g);
+    }
+}
+
+/* ---- transfers ---- */
+
+/* Addresses in the memory and round its edges; low bits are not kept. */
+static uint32_t some_address(struct generator *g)
+{
+    uint32_t near = 4 * below(g, 8);
+
+    switch (below(g, 8)) {
+    case 0:  return near + below(g, 4);
+    case 1:  return 0x3FE0 + near;
+    case 2:  return 0x3FFC;
+    case 3:
+        if (one_in(g, 3))
+            return one_in(g, 2) ? 0x4000 + near : 0x4000;
+        return 0x100 + near;
+    case 4:
+        if (one_in(g, 3))
+            return one_in(g, 2) ? 0xFFFFFFFC : 0xFFFFFFE0 + near;
+        return 0x200 + near;
+    case 5:  return one_in(g, 6) ? random32(g) : 0x100 + near;
+    case 6:  return 0x3FF0;
+    default: return below(g, 0x4000);
+    }
+}
+
+static uint32_t some_count(struct generator *g)
+{
+    if (one_in(g, 24))
+        return one_in(g, 2) ? random32(g) : 0;
+    return 1 + below(g, 40);
+}
+
+/* MCSR with cycles mostly on and the four-word bits by chance. */
+static uint32_t some_mcsr(struct generator *g)
+{
+    uint32_t bits = one_in(g, 8) ? 0 : 0x4400;
+
+    if (one_in(g, 3))
+        bits |= 0x0200;
+    if (one_in(g, 3))
+        bits |= 0x2000;
+    if (one_in(g, 4))
+        bits ^= 1u << (8 + below(g, 8));
+    return bits;
+}
+
+static void set_up(struct generator *g, bool write, uint32_t address,
+                   uint32_t count)
+{
+    pci_write(g, write ? WRITE_ADDRESS : READ_ADDRESS, address);
+    pci_write(g, write ? WRITE_COUNT : READ_COUNT, count);
+}
+
+/* An address in the memory and a count of one cycle or more. */
+static void set_up_inside(struct generator *g, bool write, uint32_t most)
+{
+    uint32_t address = 4 * below(g, MEMORY_WORDS);
+
+    set_up(g, write, address, 1 + below(g, most));
+}
+
+static void cycle(struct generator *g, bool write)
+{
+    plain_frame(g, write ? WRITE_CYCLE : READ_CYCLE);
+}
+
+/* Reads what a cycle may have changed. */
+static void look_at_transfer(struct generator *g, bool write)
+{
+    frame(g, PCI_READ, write ? 0x24 : 0x2C, 15, 0);
+    frame(g, PCI_READ, write ? 0x28 : 0x30, 15, 0);
+    frame(g, PCI_READ, 0x38, 15, 0);
+    frame(g, PCI_READ, 0x3C, 15, 0);
+}
+
+/* Feeds the Add-On-to-PCI FIFO and makes write cycles, more of either. */
+static void write_run(struct generator *g)
+{
+    uint32_t feed = 3 + below(g, 6);
+
+    for (uint32_t n = 4 + below(g, 24); n > 0; n--) {
+        if (below(g, 12) < feed)
+            port_write(g, false, 15);
+        else
+            cycle(g, true);
+        if (one_in(g, 8))
+            look_at_transfer(g, true);
+    }
+    look_at_transfer(g, true);
+}
+
+/* Makes read cycles and empties the PCI-to-Add-On FIFO, more of either. */
+static void read_run(struct generator *g)
+{
+    uint32_t drain = 1 + below(g, 6);
+
+    for (uint32_t n = 4 + below(g, 24); n > 0; n--) {
+        if (below(g, 12) < drain)
+            port_read(g, false, 15);
+        else
+            cycle(g, false);
+        if (one_in(g, 8))
+            look_at_transfer(g, false);
+    }
+    look_at_transfer(g, false);
+}
+
+/* Reads memory back from an address: read cycles, then port reads. */
+static void read_back(struct generator *g, uint32_t address)
+{
+    uint32_t words = 1 + below(g, 10);
+
+    pci_write(g, INTCSR, (g->chip.intcsr & 0xDF1F) | 0x003F0000);
+    pci_write(g, MCSR, 0x02004000 | (g->chip.mcsr & 0x8700));
+    set_up(g, false, address, 4 * words - below(g, 4));
+    for (uint32_t i = 0; i < words; i++) {
+        cycle(g, false);
+        frame(g, ADDON_READ, 0x20, 15, 0);
+    }
+    look_at_transfer(g, false);
+}
+
+static void transfers_move(struct generator *g)
+{
+    uint32_t address = some_address(g);
+    bool write = one_in(g, 2);
+
+    if (one_in(g, 2))
+        pci_write(g, MCSR, some_mcsr(g));
+    if (!one_in(g, 8))
+        pci_write(g, INTCSR, 0x00300000 | (random32(g) & 0x000FDF1F));
+    if (!one_in(g, 8))
+        set_up(g, write, address, some_count(g));
+    if (write)
+        write_run(g);
+    else
+        read_run(g);
+    if (write && one_in(g, 2))
+        read_back(g, address);
+    if (one_in(g, 2))
+        clear_flags(g);
+    if (one_in(g, 8))
+        clear_by_mcsr(g);
+}
+
+/* ---- aborts ---- */
+
+/* An address surely outside the memory of the log program. */
+static uint32_t outside(struct generator *g)
+{
+    switch (below(g, 4)) {
+    case 0:  return 0x4000;
+    case 1:  return 0xFFFFFFFC;
+    case 2:  return 0x4000 + 4 * below(g, 64);
+    default: return 0x4000 + below(g, 0xFFFFC000);
+    }
+}
+
+/* Sets other flags first: events, or counts brought to zero. */
+static void other_flags(struct generator *g)
+{
+    uint32_t enables = random32(g) & 0xC000;
+
+    pci_write(g, INTCSR, 0x1010 | enables);
+    if (one_in(g, 2))
+        frame(g, ADDON_READ, 0, 1, 0);
+    if (one_in(g, 2))
+        write_frame(g, ADDON_WRITE, 0x10, 1);
+    if (one_in(g, 2)) {
+        set_up_inside(g, true, 4);
+        port_write(g, false, 15);
+        cycle(g, true);
+    }
+    if (one_in(g, 2)) {
+        set_up_inside(g, false, 4);
+        cycle(g, false);
+    }
+}
+
+/* Clears bit 20 surely. */
+static void clear_abort(struct generator *g)
+{
+    uint32_t enables = below(g, 16) | 4;
+
+    frame(g, PCI_WRITE, 0x38, enables,
+          0x00100000 | (random32(g) & 0xFFFFDF1F));
+}
+
+static void aborts_move(struct generator *g)
+{
+    bool write = one_in(g, 2);
+    uint32_t address = outside(g);
+
+    pci_write(g, MCSR, 0x4400 | (random32(g) & 0x9100));
+    if (one_in(g, 2))
+        other_flags(g);
+    if (g->chip.to_pci.fill == 0 || one_in(g, 3))
+        port_write(g, false, 15);
+    if (g->chip.to_addon.fill == FIFO_WORDS)
+        port_read(g, false, 15);
+    set_up(g, write, address, 1 + below(g, 40));
+    for (uint32_t n = 1 + below(g, 3); n > 0; n--) {
+        cycle(g, write);
+        frame(g, PCI_READ, 0x38, 15, 0);
+        cycle(g, one_in(g, 4) ? !write : write);
+        if (one_in(g, 3))
+            clear_flags(g);
+        if (one_in(g, 4))
+            look(g);
+        clear_abort(g);
+        frame(g, PCI_READ, 0x38, some_enables(g), 0);
+    }
+    if (one_in(g, 2))
+        set_up_inside(g, write, 40);
+    cycle(g, write);
+    look_at_transfer(g, write);
+}
+
+/* ---- unknown ---- */
+
+/* A kind of 7 to FF, often one just above the known ones. */
+static uint32_t unknown_kind(struct generator *g)
+{
+    return 7 + below(g, one_in(g, 2) ? 4 : 249);
+}
+
+/* An offset not in the table. */
+static uint32_t unknown_offset(struct generator *g, uint32_t table)
+{
+    for (;;) {
+        uint32_t offset = below(g, one_in(g, 2) ? 0x48 : 0x100);
+
+        if (offset % 4 != 0 || offset >= 0x40 || !(table >> offset / 4 & 1))
+            return offset;
+    }
+}
+
+static void unknown_move(struct generator *g)
+{
+    uint32_t kind = below(g, 4);
+    bool pci = kind == PCI_READ || kind == PCI_WRITE;
+    uint32_t offset = 4 * below(g, REGISTERS);
+    uint32_t enables = below(g, 16);
+
+    switch (below(g, 6)) {
+    case 0:
+        write_frame(g, unknown_kind(g), offset, enables);
+        break;
+    case 1:
+        offset = unknown_offset(g, pci ? PCI_TABLE : ADDON_TABLE);
+        write_frame(g, kind, offset, enables);
+        break;
+    case 2:
+        write_frame(g, kind, 0x20, enables);
+        break;
+    case 3:
+    case 4:
+        if ((pci ? PCI_READ_ONLY : ADDON_READ_ONLY) >> offset / 4 & 1)
+            write_frame(g, pci ? PCI_WRITE : ADDON_WRITE, offset, enables);
+        break;
+    default:
+        if (one_in(g, 10))
+            look(g);
+        else if (one_in(g, 6))
+            mail_event(g);
+        else
+            mail_traffic(g);
+    }
+}
+
+/* ---- broken lines ---- */
+
+/* The text of a good frame of a known kind; 13 digits and a NUL. */
+static void frame_text(struct generator *g, bool lower, uint32_t enables,
+                       char text[16])
+{
+    uint32_t kind = below(g, 7);
+    uint32_t offset = 4 * below(g, REGISTERS);
+    uint32_t data = random32(g);
+
+    snprintf(text, 16, lower ? LOWER : UPPER, (unsigned)kind,
+             (unsigned)offset, (unsigned)enables, (unsigned)data);
+}
+
+/* A frame's text with one byte that is no digit. */
+static void spoilt_digit(struct generator *g)
+{
+    static const unsigned char wrong[] = {
+        '/', ':', '@', 'G', 'a', 'f', 'g', '`', ' ', '\t', '\r', '\0',
+        'x', '-', '+', '.', 0x7F, 0x80, 0xB0, 0xC1, 0xFF
+    };
+    char text[16];
+    uint32_t at = below(g, 13);
+
+    frame_text(g, false, 15, text);
+    text[at] = (char)wrong[below(g, sizeof wrong)];
+    raw_line(g, text, 13);
+}
+
+/* A frame's text cut short, or with something before or after it. */
+static void altered_frame(struct generator *g)
+{
+    static const char *const before[] = { "", " ", "\t", "0", "\r", "0x" };
+    static const char *const after[] = { "\r", " ", "\t", "0", "", "  " };
+    const char *first = before[below(g, 6)];
+    const char *last = after[below(g, 6)];
+    char good[16], text[32];
+    int n;
+
+    frame_text(g, false, below(g, 16), good);
+    if (one_in(g, 3))
+        good[below(g, 13)] = '\0';
+    n = snprintf(text, sizeof text, "%s%s%s", first, good, last);
+    if (n == 13)
+        n--;                    /* it could be a frame */
+    raw_line(g, text, (size_t)n);
+}
+
+/* A frame's text in lower case, with a letter in it for certain. */
+static void lower_case(struct generator *g)
+{
+    char text[16];
+
+    frame_text(g, true, 10 + below(g, 6), text);
+    raw_line(g, text, 13);
+}
+
+/* Lengths where a counter or a buffer may go wrong. */
+static size_t long_length(struct generator *g)
+{
+    static const uint32_t lengths[] = {
+        12, 13 + 256, 13 + 65536, 4096, 8192, 32768, 65535, 65536, 65537,
+        LONG_LINE_MAX
+    };
+    uint32_t less = below(g, 2);
+
+    if (one_in(g, 2))
+        return lengths[below(g, 10)] - less;
+    return 14 + below(g, LONG_LINE_MAX - 13);
+}
+
+/* A long line of digits only, or of any bytes but LF. */
+static void long_line(struct generator *g)
+{
+    static char text[LONG_LINE_MAX];
+    size_t n = long_length(g);
+    bool digits = one_in(g, 2);
+
+    for (size_t i = 0; i < n; i++) {
+        unsigned char b = (unsigned char)random32(g);
+
+        if (digits)
+            b = (unsigned char)"0123456789ABCDEF"[b % 16];
+        text[i] = (char)(b == '\n' ? '\0' : b);
+    }
+    raw_line(g, text, n);
+}
+
+/* A short line of any bytes but LF; never a frame. */
+static void noise(struct generator *g)
+{
+    char text[40];
+    uint32_t n = 1 + below(g, 39);
+    uint32_t at;
+
+    for (uint32_t i = 0; i < n; i++) {
+        unsigned char b = (unsigned char)random32(g);
+
+        text[i] = (char)(b == '\n' ? '\r' : b);
+    }
+    at = below(g, n);
+    text[at] = (char)(0x80 + below(g, 128));
+    raw_line(g, text, n);
+}
+
+static void broken_line(struct generator *g)
+{
+    switch (below(g, 8)) {
+    case 0:
+        /* an empty line needs its LF, so it can't be an open end */
+        if (g->left == 1 && g->open_end)
+            raw_line(g, "xyz", 3);
+        else
+            raw_line(g, "", 0);
+        break;
+    case 1:
+        lower_case(g);
+        break;
+    case 2:
+        noise(g);
+        break;
+    case 3:
+        raw_line(g, "\r", 1);
+        break;
+    case 4:
+        if (one_in(g, 100))
+            long_line(g);
+        else
+            noise(g);
+        break;
+    case 5:
+        altered_frame(g);
+        break;
+    default:
+        spoilt_digit(g);
+    }
+}
+
+static void broken_move(struct generator *g)
+{
+    static move *const good[] = {
+        mailboxes_move, fifos_move, aborts_move, unknown_move
+    };
+
+    for (uint32_t n = 1 + below(g, 12); n > 0; n--)
+        broken_line(g);
+    if (g->left > 1)
+        good[below(g, 4)](g);
+}
+
+/* ---- resets and mixes ---- */
+
+static void resets_move(struct generator *g)
+{
+    static move *const moves[] = {
+        registers_move, mailboxes_move, fifos_move, transfers_move,
+        aborts_move, unknown_move, mailboxes_move, fifos_move
+    };
+
+    for (uint32_t n = 1 + below(g, 3); n > 0; n--)
+        moves[below(g, 8)](g);
+    if (one_in(g, 6))
+        broken_line(g);
+    if (one_in(g, 2))
+        plain_frame(g, CHIP_RESET);
+    else
+        clear_by_mcsr(g);
+    if (one_in(g, 2))
+        look(g);
+    else
+        read_everything(g);
+}
+
+/* A stretch of lines of one profile. */
+static void all_move(struct generator *g)
+{
+    static move *const moves[] = {
+        registers_move, mailboxes_move, mailboxes_move, fifos_move,
+        fifos_move, transfers_move, transfers_move, transfers_move,
+        aborts_move, unknown_move, broken_move, resets_move
+    };
+    move *chosen = moves[below(g, 12)];
+    uint64_t stretch = 8 + below(g, 80);
+    uint64_t goal = g->left > stretch ? g->left - stretch : 0;
+
+    while (g->left > goal)
+        chosen(g);
+}
+
+/* ---- the program ---- */
+
+static const struct {
+    const char *name;
+    move *make;
+} profiles[] = {
+    { "registers", registers_move }, { "mailboxes", mailboxes_move },
+    { "fifos", fifos_move }, { "transfers", transfers_move },
+    { "aborts", aborts_move }, { "unknown", unknown_move },
+    { "broken", broken_move }, { "resets", resets_move },
+    { "all", all_move }
+};
+
+static move *profile_named(const char *name)
+{
+    for (size_t i = 0; i < sizeof profiles / sizeof profiles[0]; i++)
+        if (strcmp(name, profiles[i].name) == 0)
+            return profiles[i].make;
+    return NULL;
+}
+
+static bool number_of(const char *text, uint64_t *number)
+{
+    char *end;
+
+    *number = strtoull(text, &end, 10);
+    return *text >= '0' && *text <= '9' && *end == '\0';
+}
+
+int main(int argc, char **argv)
+{
+    static struct generator g;
+    move *make = argc == 4 ? profile_named(argv[1]) : NULL;
+
+    if (make == NULL || !number_of(argv[2], &g.random)
+        || !number_of(argv[3], &g.left)) {
+        fputs("usage: generate PROFILE SEED COUNT > frames\n", stderr);
+        return 2;
+    }
+    model_reset(&g.chip);
+    g.window = (struct window){ g.memory, 0, MEMORY_WORDS };
+    g.open_end = make == broken_move || make == all_move;
+    while (g.left > 0 && !ferror(stdout))
+        make(&g);
+    return fflush(stdout) == 0 && !ferror(stdout) ? 0 : 1;
+}

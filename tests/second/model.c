@@ -1,0 +1,372 @@
+/* model.c: the controller of document 01.
+ * Part of the second program, written from document 01 alone. */
+#include "model.h"
+
+#include <string.h>
+
+#define BIT(n) (UINT32_C(1) << (n))
+
+#define COUNT_KEPT   UINT32_C(0x03FFFFFF)
+#define ADDRESS_KEPT UINT32_C(0xFFFFFFFC)
+#define INTCSR_KEPT  UINT32_C(0x0000DF1F)
+#define INTCSR_FLAGS UINT32_C(0x003F0000)   /* cleared by written ones */
+#define INTCSR_ABORT UINT32_C(0x00300000)   /* bits 20 and 21 */
+#define MCSR_KEPT    UINT32_C(0x0000F700)
+
+const char *const model_label[CODES] = {
+    "done", "state out of form", "window out of form", "unknown step",
+    "unknown offset", "bad enables", "part FIFO access",
+    "read-only register", "FIFO full or empty", "transfer off",
+    "count is zero", "abort stands", "FIFO not ready", "no memory there",
+    "not a frame line"
+};
+
+/* The data bits that each value of the enables lets through. */
+static const uint32_t enabled_bits[16] = {
+    0x00000000, 0x000000FF, 0x0000FF00, 0x0000FFFF,
+    0x00FF0000, 0x00FF00FF, 0x00FFFF00, 0x00FFFFFF,
+    0xFF000000, 0xFF0000FF, 0xFF00FF00, 0xFF00FFFF,
+    0xFFFF0000, 0xFFFF00FF, 0xFFFFFF00, 0xFFFFFFFF
+};
+
+void model_reset(struct controller *c)
+{
+    memset(c, 0, sizeof *c);
+}
+
+uint32_t model_line(const struct controller *c)
+{
+    uint32_t r = c->intcsr;
+    uint32_t events = (r >> 16 & r >> 4) | (r >> 17 & r >> 12)
+                    | (r >> 18 & r >> 14) | (r >> 19 & r >> 15);
+
+    return (events | r >> 20 | r >> 21) & 1;
+}
+
+static bool state_in_form(const struct controller *c)
+{
+    return c->to_addon.fill <= FIFO_WORDS && c->to_pci.fill <= FIFO_WORDS
+        && ((c->write_address | c->read_address) & ~ADDRESS_KEPT) == 0
+        && ((c->write_count | c->read_count) & ~COUNT_KEPT) == 0
+        && (c->intcsr & ~(INTCSR_KEPT | INTCSR_FLAGS)) == 0
+        && (c->mcsr & ~MCSR_KEPT) == 0;
+}
+
+static bool window_in_form(const struct window *w)
+{
+    return w->start % 4 == 0 && w->count <= WINDOW_WORDS_MAX;
+}
+
+static struct answer answer_of(const struct controller *c, uint32_t code,
+                               uint32_t data)
+{
+    return (struct answer){ .code = code, .data = data,
+                            .line = model_line(c) };
+}
+
+/* The caller sees to it that there is room. */
+static void fifo_put(struct fifo *f, uint32_t word)
+{
+    f->word[f->fill] = word;
+    f->fill++;
+}
+
+/* The caller sees to it that a word is held. */
+static uint32_t fifo_take(struct fifo *f)
+{
+    uint32_t front = f->word[0];
+
+    memmove(f->word, f->word + 1, sizeof f->word - sizeof f->word[0]);
+    f->fill--;
+    return front;
+}
+
+/* old with the bits of mask taken from data */
+static uint32_t merge(uint32_t old, uint32_t data, uint32_t mask)
+{
+    return (old & ~mask) | (data & mask);
+}
+
+static uint32_t intcsr_read(const struct controller *c)
+{
+    return c->intcsr | model_line(c) << 23;
+}
+
+static uint32_t mcsr_read(const struct controller *c)
+{
+    uint32_t out = c->to_addon.fill;
+    uint32_t in = c->to_pci.fill;
+
+    return c->mcsr
+         | (uint32_t)(c->write_count == 0) << 7
+         | (uint32_t)(c->read_count == 0) << 6
+         | (uint32_t)(in == 0) << 5
+         | (uint32_t)(in >= 4) << 4
+         | (uint32_t)(in == FIFO_WORDS) << 3
+         | (uint32_t)(out == 0) << 2
+         | (uint32_t)(out <= FIFO_WORDS - 4) << 1
+         | (uint32_t)(out == FIFO_WORDS);
+}
+
+/* Bits written as one clear a flag; the kept bits take what is written. */
+static void intcsr_write(struct controller *c, uint32_t data, uint32_t mask)
+{
+    c->intcsr &= ~(data & mask & INTCSR_FLAGS);
+    c->intcsr = merge(c->intcsr, data, mask & INTCSR_KEPT);
+}
+
+static void mcsr_write(struct controller *c, uint32_t data, uint32_t mask)
+{
+    uint32_t ones = data & mask;
+
+    c->mcsr = merge(c->mcsr, data, mask & MCSR_KEPT);
+    if (ones & BIT(27))
+        c->marks = 0;
+    if (ones & BIT(26))
+        c->to_pci.fill = 0;
+    if (ones & BIT(25))
+        c->to_addon.fill = 0;
+}
+
+/* The status bits of the enabled bytes of a mailbox. */
+static uint32_t marks_of(uint32_t place, uint32_t enables)
+{
+    return enables << (4 * place);
+}
+
+static void mail_write(struct controller *c, uint32_t place,
+                       uint32_t enables, uint32_t data)
+{
+    c->mail[place] = merge(c->mail[place], data, enabled_bits[enables]);
+    c->marks |= marks_of(place, enables);
+}
+
+static uint32_t pci_read(struct controller *c, uint32_t place,
+                         uint32_t enables)
+{
+    switch (place) {
+    case FIFO_PORT:     return fifo_take(&c->to_pci);
+    case WRITE_ADDRESS: return c->write_address;
+    case WRITE_COUNT:   return c->write_count;
+    case READ_ADDRESS:  return c->read_address;
+    case READ_COUNT:    return c->read_count;
+    case MAIL_STATUS:   return c->marks;
+    case INTCSR:        return intcsr_read(c);
+    case MCSR:          return mcsr_read(c);
+    default:
+        if (place >= 4)
+            c->marks &= ~marks_of(place, enables);
+        return c->mail[place];
+    }
+}
+
+static void pci_write(struct controller *c, uint32_t place,
+                      uint32_t enables, uint32_t data)
+{
+    uint32_t mask = enabled_bits[enables];
+    uint32_t *r;
+
+    switch (place) {
+    case FIFO_PORT:
+        fifo_put(&c->to_addon, data);
+        break;
+    case WRITE_ADDRESS:
+    case READ_ADDRESS:
+        r = place == WRITE_ADDRESS ? &c->write_address : &c->read_address;
+        *r = merge(*r, data, mask & ADDRESS_KEPT);
+        break;
+    case WRITE_COUNT:
+    case READ_COUNT:
+        r = place == WRITE_COUNT ? &c->write_count : &c->read_count;
+        *r = merge(*r, data, mask & COUNT_KEPT);
+        break;
+    case INTCSR:
+        intcsr_write(c, data, mask);
+        break;
+    case MCSR:
+        mcsr_write(c, data, mask);
+        break;
+    default:
+        mail_write(c, place, enables, data);
+    }
+}
+
+static uint32_t addon_read(struct controller *c, uint32_t place,
+                           uint32_t enables)
+{
+    if (place == FIFO_PORT)
+        return fifo_take(&c->to_addon);
+    if (place == MAIL_STATUS)
+        return c->marks;
+    if (place < 4) {
+        uint32_t touched = marks_of(place, enables);
+
+        c->marks &= ~touched;
+        if (c->intcsr & BIT(4) && touched >> (c->intcsr & 15) & 1)
+            c->intcsr |= BIT(16);
+    }
+    return c->mail[place];
+}
+
+static void addon_write(struct controller *c, uint32_t place,
+                        uint32_t enables, uint32_t data)
+{
+    uint32_t touched;
+
+    if (place == FIFO_PORT) {
+        fifo_put(&c->to_pci, data);
+        return;
+    }
+    touched = marks_of(place, enables);
+    mail_write(c, place, enables, data);
+    if (c->intcsr & BIT(12) && touched >> (16 + (c->intcsr >> 8 & 15)) & 1)
+        c->intcsr |= BIT(17);
+}
+
+/* Code 8: the port is written when full or read when empty. */
+static bool port_blocked(const struct controller *c, uint32_t kind)
+{
+    switch (kind) {
+    case PCI_READ:   return c->to_pci.fill == 0;
+    case PCI_WRITE:  return c->to_addon.fill == FIFO_WORDS;
+    case ADDON_READ: return c->to_addon.fill == 0;
+    default:         return c->to_pci.fill == FIFO_WORDS;
+    }
+}
+
+/* The lowest code of a read or write, from code 4 on. */
+static uint32_t access_code(const struct controller *c, const struct step *s)
+{
+    bool pci = s->kind == PCI_READ || s->kind == PCI_WRITE;
+    bool write = s->kind == PCI_WRITE || s->kind == ADDON_WRITE;
+    uint32_t table = pci ? PCI_TABLE : ADDON_TABLE;
+    uint32_t read_only = pci ? PCI_READ_ONLY : ADDON_READ_ONLY;
+    uint32_t place = s->offset / 4;
+
+    if (s->offset % 4 != 0 || place >= REGISTERS || !(table >> place & 1))
+        return UNKNOWN_OFFSET;
+    if (s->enables > 15)
+        return BAD_ENABLES;
+    if (place == FIFO_PORT && s->enables != 15)
+        return PART_FIFO_ACCESS;
+    if (write && read_only >> place & 1)
+        return READ_ONLY_REGISTER;
+    if (place == FIFO_PORT && port_blocked(c, s->kind))
+        return FIFO_FULL_OR_EMPTY;
+    return DONE;
+}
+
+static struct answer do_access(struct controller *c, const struct step *s)
+{
+    uint32_t code = access_code(c, s);
+    uint32_t place = s->offset / 4;
+    uint32_t data = 0;
+
+    if (code != DONE)
+        return answer_of(c, code, 0);
+    switch (s->kind) {
+    case PCI_READ:
+        data = pci_read(c, place, s->enables) & enabled_bits[s->enables];
+        break;
+    case PCI_WRITE:
+        pci_write(c, place, s->enables, s->data);
+        break;
+    case ADDON_READ:
+        data = addon_read(c, place, s->enables) & enabled_bits[s->enables];
+        break;
+    default:
+        addon_write(c, place, s->enables, s->data);
+    }
+    return answer_of(c, DONE, data);
+}
+
+/* The place of the word in the window; the subtraction is modulo 2^32. */
+static uint32_t word_place(const struct window *w, uint32_t address)
+{
+    return (address - w->start) / 4;
+}
+
+static bool cycle_ready(const struct controller *c, bool write)
+{
+    if (write)
+        return c->to_pci.fill >= (c->mcsr & BIT(9) ? 4 : 1);
+    return FIFO_WORDS - c->to_addon.fill >= (c->mcsr & BIT(13) ? 4 : 1);
+}
+
+/* The lowest code of a cycle, from code 9 on. */
+static uint32_t cycle_code(const struct controller *c,
+                           const struct window *w, bool write)
+{
+    uint32_t address = write ? c->write_address : c->read_address;
+    uint32_t count = write ? c->write_count : c->read_count;
+
+    if (!(c->mcsr & (write ? BIT(10) : BIT(14))))
+        return TRANSFER_OFF;
+    if (count == 0)
+        return COUNT_IS_ZERO;
+    if (c->intcsr & INTCSR_ABORT)
+        return ABORT_STANDS;
+    if (!cycle_ready(c, write))
+        return FIFO_NOT_READY;
+    if (word_place(w, address) >= w->count)
+        return NO_MEMORY_THERE;
+    return DONE;
+}
+
+static struct answer do_cycle(struct controller *c, const struct window *w,
+                              bool write)
+{
+    uint32_t code = cycle_code(c, w, write);
+    uint32_t *address = write ? &c->write_address : &c->read_address;
+    uint32_t *count = write ? &c->write_count : &c->read_count;
+    uint32_t bytes = *count < 4 ? *count : 4;
+    struct answer a = { .code = code };
+
+    if (code == DONE) {
+        uint32_t *word = &w->words[word_place(w, *address)];
+
+        a.address = *address;
+        a.enables = BIT(bytes) - 1;
+        if (write) {
+            a.data = fifo_take(&c->to_pci);
+            *word = merge(*word, a.data, enabled_bits[a.enables]);
+        } else {
+            a.data = *word & enabled_bits[a.enables];
+            fifo_put(&c->to_addon, a.data);
+        }
+        *count -= bytes;
+        *address += 4;
+        if (*count == 0)
+            c->intcsr |= write ? BIT(18) : BIT(19);
+    } else if (code == NO_MEMORY_THERE) {
+        a.address = *address;
+        c->intcsr |= BIT(20);
+    }
+    a.line = model_line(c);
+    return a;
+}
+
+struct answer model_step(struct controller *c, const struct window *w,
+                         const struct step *s)
+{
+    if (!state_in_form(c))
+        return (struct answer){ .code = STATE_OUT_OF_FORM };
+    if (!window_in_form(w))
+        return answer_of(c, WINDOW_OUT_OF_FORM, 0);
+    switch (s->kind) {
+    case PCI_READ:
+    case PCI_WRITE:
+    case ADDON_READ:
+    case ADDON_WRITE:
+        return do_access(c, s);
+    case WRITE_CYCLE:
+        return do_cycle(c, w, true);
+    case READ_CYCLE:
+        return do_cycle(c, w, false);
+    case CHIP_RESET:
+        model_reset(c);
+        return answer_of(c, DONE, 0);
+    default:
+        return answer_of(c, UNKNOWN_STEP, 0);
+    }
+}
