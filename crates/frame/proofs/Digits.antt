@@ -1,15 +1,14 @@
 -- The loops over digits, and the parts of a line of digits.
 --     all-more, all-stop, all-end    whether all are digits, by the byte at a place
 --     number-more, number-end        the number of the digits from a place on
---     more, small                    one digit more, as a bound; 13 digits at most
+--     small                          13 digits at most
 --     all-part                       a part of a line of digits is one of digits
 use Prim.Native.Nat.{ℕ, zero, suc, _+_, _*_, _^_, _≤_, _<_}
 use mathlib.Core.Path.{_≡_, refl}
 use mathlib.Core.List.{List, [], _∷_}
 use mathlib.Core.Bool.{true, false}
-use native.Mathlib.Nat.{pow-suc, pow-le-pow-right}
+use native.Mathlib.Nat.{pow-le-pow-right}
 use native.Mathlib.Numerals.{add-one}
-use native.Mathlib.Omega.{arith}
 use borrow.Author.Tests.{lt-ltb, le-ltb}
 use lib.ListN.{length, getD, drop, take, drop-of-length-le}
 use lib.Seq.{drop-cons}
@@ -37,9 +36,6 @@ module _ (s : List ℕ) (i : ℕ) where
   pub number-end : (n : ℕ) → length s ≤ i → numberFrom n (drop i s) ≡ n
   unfolding numberFrom
   number-end n h = rw (drop-of-length-le s h)
-
-pub more : (i n d : ℕ) → n < 16 ^ i → d < 16 → n * 16 + d < 16 ^ (i + 1)
-more i n d h k = rw (add-one, pow-suc) (omega arith)
 
 pub small : {i : ℕ} → i ≤ 13 → 16 ^ i ≤ 16 ^ 13
 small h = pow-le-pow-right {n = 16} (lit< tt) h

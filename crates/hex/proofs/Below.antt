@@ -9,7 +9,8 @@ abbrev pub below : (ℕ → Bool) → ℕ → Bool
 below test zero = true
 below test (suc n) = cond (test n) (below test n) false
 
-both : (a b : Bool) → cond a b false ≡ true → (a ≡ true) × (b ≡ true)
+-- a test that goes on where the first holds
+pub both : (a b : Bool) → cond a b false ≡ true → (a ≡ true) × (b ≡ true)
 both true b e = (refl, e)
 both false b e = let z : false ≡ true = e in (z, cc)
 

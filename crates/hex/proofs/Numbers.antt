@@ -1,7 +1,7 @@
 -- Digits and numbers.
 --     length-digits                  as many digits as asked for
 --     all-append                     digits joined are digits
---     number-lt                      the number of n digits is below 16 ^ n
+--     more, number-lt                one digit more, as a bound; the number of n digits is below 16 ^ n
 --     digits-are, number-digits      what is written are digits, and they stand for the number written
 --     digits-number                  the digits of the number that digits stand for are those digits
 use Prim.Native.Nat.{ℕ, zero, suc, _+_, _*_, _/_, _%_, _^_, _<_}
@@ -61,7 +61,7 @@ all-parts false b e = let z : false ≡ true = e in (z, cc)
 
 -- ---- how large
 
-more : (i n d : ℕ) → n < 16 ^ i → d < 16 → n * 16 + d < 16 ^ suc i
+pub more : (i n d : ℕ) → n < 16 ^ i → d < 16 → n * 16 + d < 16 ^ suc i
 more i n d h k = rw pow-suc (omega arith)
 
 lt-from : (s : List ℕ) (i n : ℕ) → n < 16 ^ i → allDigits s ≡ true → numberFrom n s < 16 ^ (i + length s)

@@ -7,6 +7,7 @@ use lib.Dec.{leb}
 use native.Mathlib.Omega.{arith}
 use borrow.Author.Tests.{leb-true}
 use lib.ListN.{length, getD, length-append, List·getD-eq-default}
+use Rattle.hex.proofs.Below.{both}
 use Rattle.hex.proofs.Numbers.{length-digits}
 use Rattle.logline.specs.Labels.{labels, labelOf}
 use Rattle.logline.specs.LogLine.{numbers, logBody, logLine}
@@ -20,10 +21,6 @@ past code h = List·getD-eq-default labels [] h
 short : List (List ℕ) → Bool
 short [] = true
 short (l ∷ ls) = cond (leb (length l) 18) (short ls) false
-
-both : (a b : Bool) → cond a b false ≡ true → (a ≡ true) × (b ≡ true)
-both true b e = (refl, e)
-both false b e = let z : false ≡ true = e in (z, cc)
 
 short-at : (ls : List (List ℕ)) → short ls ≡ true → (n : ℕ) → length (getD ls n []) ≤ 18
 unfolding short

@@ -1,13 +1,15 @@
 use denote.Ref.{now}
 use mathlib.Core.Path.{_≡_, refl, _∙_}
-use Prim.Native.Nat.{_+_, _*_, _-_, _^_, _≤_, _<_}
+use native.Mathlib.Numerals.{add-one}
+use Prim.Native.Nat.{suc, _+_, _*_, _-_, _^_, _≤_, _<_}
 use native.Mathlib.Omega.{arith}
 use lib.ListN.{length, drop}
 use native.Mathlib.Nat.{le-trans}
 use lib.Dec.{lit<}
+use Rattle.hex.proofs.Numbers.{more}
 use Rattle.hex.specs.Hex.{allDigits, number, numberFrom}
 use Rattle.frame.specs.Frame.{valueOf}
-use Rattle.frame.proofs.Digits.{all-more, all-stop, all-end, number-more, number-end, more, small}
+use Rattle.frame.proofs.Digits.{all-more, all-stop, all-end, number-more, number-end, small}
 use borrow.Author.Needs.{needs}
 use Rattle.frame.proofs.number.Statement.{statement}
 use Rattle.frame.proofs.number.Tie as tie
@@ -22,7 +24,7 @@ abbrev μ-loop : tie.MeasureT-loop
 next : (c : tie.Else1 Inv-loop μ-loop) → c .before .before .before .before .loop .n * 16 + c .before .digit-number .result < 16 ^ 13
 next c =
     let l = c .before .before .before .before in
-    le-trans (more (l .loop .i) (l .loop .n) (c .before .digit-number .result) (l .loop .inv .1) (omega arith)) (small {i = l .loop .i + 1} (omega (arith, l .before .before .pre)))
+    le-trans (more (l .loop .i) (l .loop .n) (c .before .digit-number .result) (l .loop .inv .1) (omega arith)) (small {i = suc (l .loop .i)} (omega (arith, l .before .before .pre)))
 
 loop-holds : tie.Need-loop-holds Inv-loop μ-loop
 loop-holds c = (omega arith, lit< tt, refl, refl)
@@ -59,7 +61,7 @@ loop-again c =
     let l = c .before .before .before .before in
     let s = now (l .before .before .args .s) in (
       omega arith,
-      more (l .loop .i) (l .loop .n) (c .before .digit-number .result) (l .loop .inv .1) (omega arith),
+      rw add-one (more (l .loop .i) (l .loop .n) (c .before .digit-number .result) (l .loop .inv .1) (omega arith)),
       l .loop .inv .2 ∙ all-more s (l .loop .i) (omega arith) (omega (arith, c .before .digit-number .ensures)),
       rw (c .before .digit-number .ensures) (l .loop .inv .3 ∙ number-more s (l .loop .i) (l .loop .n) (omega arith)),
     )
