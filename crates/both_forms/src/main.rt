@@ -1,5 +1,5 @@
-// Runs the lines on standard input twice from reset, first with the step by value and then with the step in place, and writes
-// the two logs one after the other.
+// Runs the lines on standard input twice from reset and writes the two logs one after the other: first with the step by value
+// and lines by position, then with the step in place and lines by a reader.
 use controller::Controller;
 use frame::Framed;
 use libc::STDIN_FILENO;
@@ -17,18 +17,33 @@ fn answer(c: Controller, memory: &mut [u32], line: &[u8], is_in_place: bool) -> 
     log::answer_line(c, memory, 0, line)
 }
 
+// The line at a position, by a reader that stands at the line before it, if there is one and it is asked for.
+fn line(text: &[u8], before: usize, at: usize, is_by_reader: bool) -> &[u8] {
+    if is_by_reader & (0 < at) {
+        return reader::line_after(text, before);
+    }
+    lines::line_at(text, at)
+}
+
 fn write_log(text: &[u8], is_in_place: bool) {
     let mut memory = [0u32; 4096];
     let mut out = [0u8; 40];
     let mut c = controller::reset();
+    let mut before = 0;
     let mut at = 0;
     while at < text.len() {
-        let t = answer(c, &mut memory, lines::line_at(text, at), is_in_place);
+        let t = answer(
+            c,
+            &mut memory,
+            line(text, before, at, is_in_place),
+            is_in_place,
+        );
         let next = t.controller;
         let a = t.answer;
         c = next;
         let n = logline::put_line(&mut out, 0, a);
         io::write_all(STDOUT_FILENO, &out[..n]);
+        before = at;
         at = lines::past_line(text, at);
     }
 }

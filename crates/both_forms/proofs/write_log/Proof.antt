@@ -11,10 +11,10 @@ use Rattle.both_forms.proofs.write_log.Statement.{statement}
 use Rattle.both_forms.proofs.write_log.Tie as tie
 
 abbrev Inv-loop : tie.InvT-loop
-Inv-loop text is-in-place memory₀ out₀ c₀ at₀ memory out c at = (length memory ≡ 4096) × (length out ≡ 40)
+Inv-loop text is-in-place memory₀ out₀ c₀ before₀ at₀ memory out c before at = (length memory ≡ 4096) × (length out ≡ 40)
 
 abbrev μ-loop : tie.MeasureT-loop
-μ-loop text is-in-place memory₀ out₀ c₀ at₀ memory out c at = length text - at
+μ-loop text is-in-place memory₀ out₀ c₀ before₀ at₀ memory out c before at = length text - at
 
 reset-requires : tie.Need-reset-requires Inv-loop μ-loop
 reset-requires c κs = search needs
@@ -25,8 +25,8 @@ loop-holds c = (length-replicate {A = ℕ} 4096 0, length-replicate {A = ℕ} 40
 slice-aggregate-answer : tie.Need-slice-aggregate-answer Inv-loop μ-loop
 slice-aggregate-answer c = search needs
 
-line-at-requires : tie.Need-line-at-requires Inv-loop μ-loop
-line-at-requires c κs = search needs
+line-requires : tie.Need-line-requires Inv-loop μ-loop
+line-requires c κs = search needs
 
 answer-requires : tie.Need-answer-requires Inv-loop μ-loop
 answer-requires c κs = search needs
@@ -66,4 +66,4 @@ returns c = search needs
 
 pub write-log-spec : {M : Type 1} → statement M
 write-log-spec =
-    tie.close (tie.spec Inv-loop μ-loop reset-requires loop-holds slice-aggregate-answer line-at-requires answer-requires slice-aggregate-put-line put-line-requires array-share-prefix-out slice-aggregate-write-all write-all-requires past-line-requires loop-less loop-again returns)
+    tie.close (tie.spec Inv-loop μ-loop reset-requires loop-holds slice-aggregate-answer line-requires answer-requires slice-aggregate-put-line put-line-requires array-share-prefix-out slice-aggregate-write-all write-all-requires past-line-requires loop-less loop-again returns)
