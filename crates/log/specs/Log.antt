@@ -54,7 +54,7 @@ textTold st start memory text = toldOf st start memory (lines text)
 abbrev pub carried : ℕ
 carried = 14
 
--- what a piece leaves: state, memory, the kept bytes of the line that has not ended, and the answers to the lines that have
+-- what a piece leaves: state, memory, the carried bytes of the line that has not ended, and the answers to the lines that have
 pub record Fed : Type 0 where
   pub state : State
   pub memory : List ℕ

@@ -58,7 +58,7 @@ pub record RunPromised (c : Controller) (start : ℕ) (memory text out : List �
 
 -- ---- a piece
 
--- the kept bytes of the line that has not ended
+-- the carried bytes of the line that has not ended
 unfoldable pub begunOf : Stream → List ℕ
 begunOf s = take (s .len) (s .bytes)
 
