@@ -89,11 +89,12 @@ run_log() {
     timeout 600 ./s5933-log <"$1" >"$2" 2>"$work/errors" || echo "s5933-log ended with status $?: $(head -c 300 "$work/errors")"
 }
 
-# first_difference FRAMES LOG OTHER: the first line in which two logs differ, with its frame.
+# first_difference FRAMES LOG OTHER [NAME]: the first line in which two logs differ, with its frame. NAME says whose the other log
+# is; the second program's, if it isn't given.
 first_difference() {
     local n
     n=$(awk -v other="$3" '{ if ((getline line <other) <= 0 || line != $0) exit } { same = NR } END { print same + 1 }' "$2")
     echo "line $n, frame:   $(sed -n "${n}p" "$1" | head -c 60 | cat -v)"
     echo "line $n, program: $(sed -n "${n}p" "$2" | head -c 60 | cat -v)"
-    echo "line $n, second:  $(sed -n "${n}p" "$3" | head -c 60 | cat -v)"
+    echo "line $n, ${4:-second}:  $(sed -n "${n}p" "$3" | head -c 60 | cat -v)"
 }
