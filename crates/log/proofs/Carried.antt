@@ -1,7 +1,7 @@
 -- What is carried from piece to piece.
 --     bytes-length                    the array of a stream that a function is passed has its length: what owning the struct tells
 --     clip                            of more than 14 bytes, 14 count
---     lf-turn, other-turn, fed-none   a turn of the loop over a piece, at an LF and at any other byte; and its end
+--     fed-none                        the end of the loop over a piece
 --     push-room, push-full            another byte, with room for it and without
 --     answers-few                     no more answers than bytes
 use Prim.Native.Nat.{ℕ, suc, _+_, _≤_, _<_, min, zero-le}
@@ -62,16 +62,6 @@ module _ (st : State) (start : ℕ) (memory begun : List ℕ) (x : ℕ) (xs : Li
   fed-other e = simp (ne-eqb x 10 e)
 
 module _ (st : State) (start : ℕ) (memory begun piece : List ℕ) (done : List Answer) (i : ℕ) where
-  pub lf-turn : i < length piece → getD piece i 0 ≡ 10
-      → afterFed done (fedOf st start memory begun (drop i piece))
-      ≡ afterFed (done ++ toldOf st start memory (begun ∷ []) .answers) (fedOf (toldOf st start memory (begun ∷ []) .state) start (toldOf st start memory (begun ∷ []) .memory) [] (drop (i + 1) piece))
-  unfolding toldOf
-  lf-turn h e = rw (add-one, drop-cons piece i 0 h, fed-lf st start memory begun (getD piece i 0) (drop (suc i) piece) e, append-assoc)
-
-  pub other-turn : i < length piece → (getD piece i 0 ≡ 10 → ⊥)
-      → afterFed done (fedOf st start memory begun (drop i piece)) ≡ afterFed done (fedOf st start memory (take 14 (begun ++ (getD piece i 0 ∷ []))) (drop (i + 1) piece))
-  other-turn h e = rw (add-one, drop-cons piece i 0 h, fed-other st start memory begun (getD piece i 0) (drop (suc i) piece) e)
-
   pub fed-none : length piece ≤ i → afterFed done (fedOf st start memory begun (drop i piece)) ≡ record { state = st; memory = memory; begun = begun; answers = done }
   unfolding fedOf
   fed-none h = rw (drop-of-length-le piece h, append-nil)

@@ -6,4 +6,6 @@ pub mod Worked
 pub mod Bodies
 pub mod Texts
 pub mod Pieces
+pub mod Turns
+pub mod Ends
 pub mod Unique

@@ -19,7 +19,7 @@ use Rattle.log.proofs.Carried.{fed-lf, fed-other}
 
 -- ---- the first 14 bytes decide
 
-frame-clip : (l : List ℕ) → Dec (length l ≤ 14) → frameOf (take 14 l) ≡ frameOf l
+pub frame-clip : (l : List ℕ) → Dec (length l ≤ 14) → frameOf (take 14 l) ≡ frameOf l
 unfolding frameOf isFrame
 frame-clip l (yes h) = rw (take-all 14 l h)
 frame-clip l (no h) =
@@ -30,7 +30,7 @@ frame-clip l (no h) =
 abbrev Same : List ℕ → List ℕ → Type 0
 Same l k = take 14 l ≡ take 14 k
 
-take-clip : (n : ℕ) (l t : List ℕ) → take n (take n l ++ t) ≡ take n (l ++ t)
+pub take-clip : (n : ℕ) (l t : List ℕ) → take n (take n l ++ t) ≡ take n (l ++ t)
 take-clip zero l t = refl
 take-clip (suc n) [] t = refl
 take-clip (suc n) (a ∷ l) t = ap (λ (r : List ℕ). a ∷ r) (take-clip n l t)
@@ -89,7 +89,7 @@ module _ (st : State) (start : ℕ) (memory begun : List ℕ) (x : ℕ) (xs b : 
       rw (lines-other begun x (xs ++ b) e, fed-other st start memory begun x xs e)
       (told-same st start memory (begun ++ (x ∷ [])) begun′ (xs ++ b) (sym (take-take 14 14 (begun ++ (x ∷ [])) (omega arith))) ∙ k)
 
-piece-told : (st : State) (start : ℕ) (memory begun a b : List ℕ) → toldOf st start memory (linesFrom begun (a ++ b)) ≡ then start (fedOf st start memory begun a) b
+pub piece-told : (st : State) (start : ℕ) (memory begun a b : List ℕ) → toldOf st start memory (linesFrom begun (a ++ b)) ≡ then start (fedOf st start memory begun a) b
 unfolding fedOf
 piece-told st start memory begun [] b = refl
 piece-told st start memory begun (x ∷ a) b =

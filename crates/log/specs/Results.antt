@@ -1,25 +1,28 @@
 -- What the functions that write a log leave, with room for it and without.
-use Prim.Native.Nat.{ℕ, _*_}
+use Prim.Native.Nat.{ℕ, _*_, _≤_, _<_}
 use mathlib.Core.Path.{_≡_}
 use mathlib.Core.List.{List, _++_}
 use mathlib.Core.Bool.{Bool, true, cond}
-use lib.ListN.{length, take, drop}
-use lib.Dec.{ltb, leb}
+use lib.ListN.{length, take, drop, getD}
+use lib.Dec.{eqb, ltb, leb}
 use Rattle.machine.specs.State.{State}
 use Rattle.machine.specs.declared.Answer.{Answer}
 use Rattle.controller.specs.Controller.{stateOf}
 use Rattle.controller.specs.declared.Controller.{Controller}
-use Rattle.lines.specs.Lines.{lines}
+use Rattle.lines.specs.Lines.{lf, lines}
+use Rattle.frame.specs.declared.Framed.{Framed}
+use Rattle.frame.specs.declared.Framed.the-variants.{NotAFrame}
+use Rattle.frame.specs.Frame.{frameOf, framedOutcome}
 use Rattle.logline.specs.LogLine.{lineRoom}
 use Rattle.logline.specs.Wrote.{Wrote}
 use Rattle.log.specs.declared.Logged.{Logged}
 use Rattle.log.specs.declared.Logged.the-variants.{Written, NoRoom}
-use Rattle.log.specs.declared.Lined.{Lined}
 use Rattle.log.specs.declared.Ran.{Ran}
 use Rattle.log.specs.declared.Stream.{Stream}
 use Rattle.log.specs.declared.Streamed.{Streamed}
 use Rattle.log.specs.declared.Streaming.{Streaming}
-use Rattle.log.specs.Log.{Told, Fed, logOf, textTold, fedOf}
+use Rattle.log.specs.declared.Turn.{Turn}
+use Rattle.log.specs.Log.{Told, Fed, logOf, textTold, answering, fedOf}
 
 -- the output has fewer than 40 bytes for each of so many lines
 unfoldable pub isShort : ℕ → List ℕ → Bool
@@ -82,15 +85,34 @@ pub record FeedPromised (s : Stream) (start : ℕ) (memory piece out : List ℕ)
   pub fed : record { state = stateOf (r .stream .controller); memory = memory′; begun = begunOf (r .stream); out = out′; log = r .log } ≡ pieceOf (stateOf (s .controller)) start memory (begunOf s) piece out
   pub refused : isShort (length piece) out ≡ true → r .stream ≡ s
 
--- ---- inside: lines and pieces with room for them
+-- ---- inside: a piece with room for its log
 
-pub record Leaves (t : Told) (r : Lined) (memory′ out : List ℕ) (at : ℕ) (out′ : List ℕ) : Type 0 where
-  pub state : stateOf (r .controller) ≡ t .state
-  pub memory : memory′ ≡ t .memory
-  pub log : Wrote out at (logOf (t .answers)) (r .next) out′
+-- the frame that bytes begin with, an LF behind it
+unfoldable pub frameIn : List ℕ → Framed
+frameIn bytes = cond (eqb (getD bytes 13 0) lf) (frameOf (take 13 bytes)) NotAFrame
 
-pub record Feeds (f : Fed) (r : Streaming) (memory′ out out′ : List ℕ) : Type 0 where
+-- what is fed from a turn on: the answer to a line that has ended, then the rest of the piece after what is carried
+abbrev pub fedPast : Turn → State → ℕ → List ℕ → List ℕ → Fed
+fedPast t st start memory rest =
+    let o = framedOutcome (t .framed) st start memory in
+    let begun = take (t .len) (t .bytes) in
+    cond (t .ended) (answering (o .answer) (fedOf (o .state) start (o .memory) begun rest)) (fedOf st start memory begun rest)
+
+-- a turn, at a place of a piece, after the bytes `begun`
+pub record Takes (begun piece : List ℕ) (at : ℕ) (t : Turn) : Type 0 where
+  pub above : at < t .next
+  pub within : t .next ≤ length piece
+  pub few : t .len ≤ 14
+  pub whole : length (t .bytes) ≡ 14
+  pub fed : (st : State) (start : ℕ) (memory : List ℕ) → fedOf st start memory begun (drop at piece) ≡ fedPast t st start memory (drop (t .next) piece)
+
+pub record Feeds (f : Fed) (r : Streaming) (memory′ out : List ℕ) (at : ℕ) (out′ : List ℕ) : Type 0 where
   pub state : stateOf (r .stream .controller) ≡ f .state
   pub memory : memory′ ≡ f .memory
   pub begun : begunOf (r .stream) ≡ f .begun
-  pub log : Wrote out 0 (logOf (f .answers)) (r .next) out′
+  pub log : Wrote out at (logOf (f .answers)) (r .next) out′
+
+pub record Leaves (t : Told) (r : Streaming) (memory′ out : List ℕ) (at : ℕ) (out′ : List ℕ) : Type 0 where
+  pub state : stateOf (r .stream .controller) ≡ t .state
+  pub memory : memory′ ≡ t .memory
+  pub log : Wrote out at (logOf (t .answers)) (r .next) out′

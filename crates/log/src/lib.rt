@@ -1,16 +1,18 @@
 // The log of a text, and of a text that comes in pieces.
 ghost use mathlib.Core.Path.{_≡_};
-ghost use mathlib.Core.List.{[], _∷_};
-ghost use Prim.Native.Nat.{_+_, _*_, _≤_, min};
-ghost use lib.ListN.{length};
+ghost use mathlib.Core.Bool.{true};
+ghost use mathlib.Core.List.{[]};
+ghost use Prim.Native.Nat.{_+_, _*_, _≤_, _<_, min};
+ghost use lib.ListN.{length, take, drop};
 ghost use Rattle.machine.specs.State.{resetState};
 ghost use Rattle.machine.specs.Step.{notAFrame};
 ghost use Rattle.controller.specs.Controller.{stateOf};
 ghost use Rattle.step.specs.Outcome.{outcomeOf};
-ghost use Rattle.lines.specs.Lines.{lines};
+ghost use Rattle.lines.specs.Lines.{linesFrom};
+ghost use Rattle.frame.specs.Frame.{framedOutcome};
 ghost use Rattle.logline.specs.LogLine.{lineRoom};
-ghost use Rattle.log.specs.Log.{lineOutcome, toldOf, textTold, fedOf};
-ghost use Rattle.log.specs.Results.{RunPromised, Leaves, begunOf, Feeds, FeedPromised};
+ghost use Rattle.log.specs.Log.{lineOutcome, toldOf, fedOf};
+ghost use Rattle.log.specs.Results.{RunPromised, Leaves, begunOf, frameIn, Takes, Feeds, FeedPromised};
 use controller::Controller;
 use frame::Framed;
 use logline::LINE_ROOM;
@@ -34,11 +36,10 @@ fn not_a_frame(c: Controller) -> Answer
     }
 }
 
-// One line: a step, or code 14.
-pub fn answer_line(c: Controller, memory: &mut [u32], start: u32, line: &[u8]) -> Stepped
-    ensures { λ r. ⌜ outcomeOf r (now (memory .exit)) ≡ lineOutcome (stateOf c) start (now (memory .entry)) (now (line .entry)) ⌝ }
+// What a line says is answered: a step, or code 14.
+fn answer(c: Controller, memory: &mut [u32], start: u32, f: Framed) -> Stepped
+    ensures { λ r. ⌜ outcomeOf r (now (memory .exit)) ≡ framedOutcome f (stateOf c) start (now (memory .entry)) ⌝ }
 {
-    let f = frame::frame(line);
     match f {
         Framed::Frame(s) => step::step(c, memory, start, s),
         Framed::NotAFrame => {
@@ -51,83 +52,18 @@ pub fn answer_line(c: Controller, memory: &mut [u32], start: u32, line: &[u8]) -
     }
 }
 
-// A controller after lines, and the place past their log.
-struct Lined {
-    controller: Controller,
-    next: usize,
-}
-
-// One line, and its log line at a place with room for it.
-fn log_line(
-    c: Controller,
-    memory: &mut [u32],
-    start: u32,
-    line: &[u8],
-    out: &mut [u8],
-    at: usize,
-) -> Lined
-    requires { ⌜ at + lineRoom ≤ length (now out) ⌝ }
-    ensures { λ r. ⌜ Leaves (toldOf (stateOf c) start (now (memory .entry)) (now (line .entry) ∷ [])) r (now (memory .exit)) (now (out .entry)) at (now (out .exit)) ⌝ }
+// One line: a step, or code 14.
+pub fn answer_line(c: Controller, memory: &mut [u32], start: u32, line: &[u8]) -> Stepped
+    ensures { λ r. ⌜ outcomeOf r (now (memory .exit)) ≡ lineOutcome (stateOf c) start (now (memory .entry)) (now (line .entry)) ⌝ }
 {
-    let t = answer_line(c, memory, start, line);
-    let answer = t.answer;
-    let controller = t.controller;
-    let next = logline::put_line(out, at, answer);
-    Lined { controller, next }
+    let f = frame::frame(line);
+    answer(c, memory, start, f)
 }
-
-// ---- a text
 
 // How many bytes of log stand at the output's start, or that it has too little room.
 pub enum Logged {
     Written(usize),
     NoRoom,
-}
-
-pub struct Ran {
-    pub controller: Controller,
-    pub log: Logged,
-}
-
-// The lines of a text, with room for the log.
-fn run_lines(c: Controller, memory: &mut [u32], start: u32, text: &[u8], out: &mut [u8]) -> Lined
-    requires { ⌜ lineRoom * length (lines (now text)) ≤ length (now out) ⌝ }
-    ensures { λ r. ⌜ Leaves (textTold (stateOf c) start (now (memory .entry)) (now (text .entry))) r (now (memory .exit)) (now (out .entry)) 0 (now (out .exit)) ⌝ }
-{
-    let mut d = c;
-    let mut at = 0;
-    let mut n = 0;
-    while at < text.len() {
-        let l = log_line(d, memory, start, lines::line_at(text, at), out, n);
-        let next = l.controller;
-        n = l.next;
-        d = next;
-        at = lines::past_line(text, at);
-    }
-    Lined {
-        controller: d,
-        next: n,
-    }
-}
-
-// A text from a controller and memory on: the log stands at the output's start. Where the output has fewer than 40 bytes for
-// each line, nothing is done.
-pub fn run(c: Controller, memory: &mut [u32], start: u32, text: &[u8], out: &mut [u8]) -> Ran
-    ensures { λ r. ⌜ RunPromised c start (now (memory .entry)) (now (text .entry)) (now (out .entry)) r (now (memory .exit)) (now (out .exit)) ⌝ }
-{
-    let n = lines::line_count(text);
-    if out.len() / LINE_ROOM < n {
-        return Ran {
-            controller: c,
-            log: Logged::NoRoom,
-        };
-    }
-    let l = run_lines(c, memory, start, text, out);
-    let controller = l.controller;
-    Ran {
-        controller,
-        log: Logged::Written(l.next),
-    }
 }
 
 // ---- a text in pieces, which end anywhere
@@ -151,16 +87,23 @@ struct Streaming {
     next: usize,
 }
 
-// The stream of a text that has not begun, from reset.
-pub fn start() -> Stream
-    ensures { λ r. ⌜ (stateOf (r .controller) ≡ resetState) × (begunOf r ≡ []) ⌝ }
+// The stream of a text that has not begun.
+fn not_begun(controller: Controller) -> Stream
+    ensures { λ r. ⌜ (stateOf (r .controller) ≡ stateOf controller) × (begunOf r ≡ []) ⌝ }
 {
-    let controller = controller::reset();
+    let len = 0;
     Stream {
         controller,
         bytes: [0; 14],
-        len: 0,
+        len,
     }
+}
+
+// The same, from reset.
+pub fn start() -> Stream
+    ensures { λ r. ⌜ (stateOf (r .controller) ≡ resetState) × (begunOf r ≡ []) ⌝ }
+{
+    not_begun(controller::reset())
 }
 
 // How many of the carried bytes count.
@@ -170,30 +113,116 @@ fn kept(len: usize) -> usize
     if len < 14 { len } else { 14 }
 }
 
-// A piece, with room for the log: at an LF the line has ended.
-fn feed_bytes(s: Stream, memory: &mut [u32], start: u32, piece: &[u8], out: &mut [u8]) -> Streaming
-    requires { ⌜ lineRoom * length (now piece) ≤ length (now out) ⌝ }
-    ensures { λ r. ⌜ Feeds (fedOf (stateOf (s .controller)) start (now (memory .entry)) (begunOf s) (now (piece .entry))) r (now (memory .exit)) (now (out .entry)) (now (out .exit)) ⌝ }
+// What is taken of a piece in a turn: a line that has ended, and what it says; or a byte more of one that has not.
+struct Turn {
+    next: usize,
+    bytes: [u8; 14],
+    len: usize,
+    ended: bool,
+    framed: Framed,
+}
+
+// A line that has ended before a place: nothing of it is carried.
+fn line_taken(bytes: [u8; 14], next: usize, framed: Framed) -> Turn
+    ensures { λ r. ⌜ r ≡ record { next = next; bytes = bytes; len = 0; ended = true; framed = framed } ⌝ }
+{
+    Turn {
+        next,
+        bytes,
+        len: 0,
+        ended: true,
+        framed,
+    }
+}
+
+// The next byte of a line that has begun, of which `len` bytes are carried.
+fn byte_taken(piece: &[u8], at: usize, carried: [u8; 14], len: usize) -> Turn
+    requires { ⌜ at < length (now piece) ⌝ }
+    requires { ⌜ len ≤ 14 ⌝ }
+    ensures { λ r. ⌜ Takes (take len carried) (now (piece .entry)) at r ⌝ }
+{
+    let x = piece[at];
+    if x == b'\n' {
+        return line_taken(carried, at + 1, frame::frame(&carried[..len]));
+    }
+    let mut bytes = carried;
+    let mut more = len;
+    if len < 14 {
+        bytes[len] = x;
+        more = len + 1;
+    }
+    Turn {
+        next: at + 1,
+        bytes,
+        len: more,
+        ended: false,
+        framed: Framed::NotAFrame,
+    }
+}
+
+// The frame that stands in the piece from a place on, with the LF behind it.
+fn frame_in(piece: &[u8], at: usize) -> Framed
+    requires { ⌜ at < length (now piece) ⌝ }
+    ensures { λ r. ⌜ r ≡ frameIn (drop at (now (piece .entry))) ⌝ }
+{
+    if piece.len() - at < 14 {
+        return Framed::NotAFrame;
+    }
+    if piece[at + 13] != b'\n' {
+        return Framed::NotAFrame;
+    }
+    frame::frame(&piece[at..at + 13])
+}
+
+// A line that stands in the piece whole is read where it stands; of any other, byte by byte, the first bytes are carried.
+fn taken(piece: &[u8], at: usize, carried: [u8; 14], len: usize) -> Turn
+    requires { ⌜ at < length (now piece) ⌝ }
+    requires { ⌜ len ≤ 14 ⌝ }
+    ensures { λ r. ⌜ Takes (take len carried) (now (piece .entry)) at r ⌝ }
+{
+    if len != 0 {
+        return byte_taken(piece, at, carried, len);
+    }
+    if let Framed::Frame(s) = frame_in(piece, at) {
+        return line_taken(carried, at + 14, Framed::Frame(s));
+    }
+    let line = lines::line_at(piece, at);
+    let end = at + line.len();
+    if end < piece.len() {
+        return line_taken(carried, end + 1, frame::frame(line));
+    }
+    byte_taken(piece, at, carried, len)
+}
+
+// A piece, with room for its log from a place on: turn by turn, and each line that has ended is answered.
+fn feed_bytes(
+    s: Stream,
+    memory: &mut [u32],
+    start: u32,
+    piece: &[u8],
+    out: &mut [u8],
+    at: usize,
+) -> Streaming
+    requires { ⌜ at + lineRoom * length (fedOf (stateOf (s .controller)) start (now memory) (begunOf s) (now piece) .answers) ≤ length (now out) ⌝ }
+    ensures { λ r. ⌜ Feeds (fedOf (stateOf (s .controller)) start (now (memory .entry)) (begunOf s) (now (piece .entry))) r (now (memory .exit)) (now (out .entry)) at (now (out .exit)) ⌝ }
 {
     let mut c = s.controller;
     let mut bytes = s.bytes;
     let mut len = kept(s.len);
-    let mut n = 0;
+    let mut n = at;
     let mut i = 0;
     while i < piece.len() {
-        let x = piece[i];
-        i += 1;
-        if x == b'\n' {
-            let l = log_line(c, memory, start, &bytes[..len], out, n);
-            let next = l.controller;
-            n = l.next;
+        let t = taken(piece, i, bytes, len);
+        let carried = t.bytes;
+        i = t.next;
+        bytes = carried;
+        len = t.len;
+        if t.ended {
+            let f = t.framed;
+            let r = answer(c, memory, start, f);
+            let next = r.controller;
             c = next;
-            len = 0;
-        } else {
-            if len < 14 {
-                bytes[len] = x;
-                len += 1;
-            }
+            n = logline::put_line(out, n, r.answer);
         }
     }
     let stream = Stream {
@@ -215,11 +244,55 @@ pub fn feed(s: Stream, memory: &mut [u32], start: u32, piece: &[u8], out: &mut [
             log: Logged::NoRoom,
         };
     }
-    let f = feed_bytes(s, memory, start, piece, out);
+    let f = feed_bytes(s, memory, start, piece, out, 0);
     let stream = f.stream;
     Streamed {
         stream,
         log: Logged::Written(f.next),
+    }
+}
+
+// ---- a text
+
+pub struct Ran {
+    pub controller: Controller,
+    pub log: Logged,
+}
+
+// The end of a text ends a line that isn't empty, as an LF does.
+fn end_line(s: Stream, memory: &mut [u32], start: u32, out: &mut [u8], at: usize) -> Streaming
+    requires { ⌜ at + lineRoom * length (toldOf (stateOf (s .controller)) start (now memory) (linesFrom (begunOf s) []) .answers) ≤ length (now out) ⌝ }
+    ensures { λ r. ⌜ Leaves (toldOf (stateOf (s .controller)) start (now (memory .entry)) (linesFrom (begunOf s) [])) r (now (memory .exit)) (now (out .entry)) at (now (out .exit)) ⌝ }
+{
+    if s.len == 0 {
+        return Streaming {
+            stream: s,
+            next: at,
+        };
+    }
+    feed_bytes(s, memory, start, b"\n", out, at)
+}
+
+// A text from a controller and memory on: the log stands at the output's start. Where the output has fewer than 40 bytes for
+// each line, nothing is done.
+pub fn run(c: Controller, memory: &mut [u32], start: u32, text: &[u8], out: &mut [u8]) -> Ran
+    ensures { λ r. ⌜ RunPromised c start (now (memory .entry)) (now (text .entry)) (now (out .entry)) r (now (memory .exit)) (now (out .exit)) ⌝ }
+{
+    let n = lines::line_count(text);
+    if out.len() / LINE_ROOM < n {
+        return Ran {
+            controller: c,
+            log: Logged::NoRoom,
+        };
+    }
+    let f = feed_bytes(not_begun(c), memory, start, text, out, 0);
+    let fed = f.stream;
+    let g = end_line(fed, memory, start, out, f.next);
+    let stream = g.stream;
+    let controller = stream.controller;
+    Ran {
+        controller,
+        log: Logged::Written(g.next),
     }
 }
 

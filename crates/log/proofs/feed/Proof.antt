@@ -35,5 +35,11 @@ returns-2 c =
       refused = λ f. absurd (true≢false (sym f ∙ enough));
     }
 
+feed-bytes-requires : tie.Need-feed-bytes-requires
+feed-bytes-requires c κs =
+    let i = c .before .before in
+    let a = i .before .before .before .before .args in
+    omega (arith, i .if1 .left, answers-few (stateOf (a .s .controller)) (a .start) (now (a .memory)) (begunOf (a .s)) (now (a .piece)))
+
 pub feed-spec : {M : Type 1} → statement M
-feed-spec = tie.close (tie.spec returns (λ c κs. search needs) (λ c. search needs) (λ c. search needs) returns-2)
+feed-spec = tie.close (tie.spec returns feed-bytes-requires (λ c. search needs) (λ c. search needs) returns-2)

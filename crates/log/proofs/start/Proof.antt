@@ -1,12 +1,10 @@
-use mathlib.Core.Path.{refl}
-use Rattle.log.specs.Results.{begunOf}
+use mathlib.Core.Path.{_∙_}
 use borrow.Author.Needs.{needs}
 use Rattle.log.proofs.start.Statement.{statement}
 use Rattle.log.proofs.start.Tie as tie
 
 returns : tie.Need-returns
-unfolding begunOf
-returns c = (c .reset .ensures, refl)
+returns c = (c .not-begun .ensures .0 ∙ c .before .reset .ensures, c .not-begun .ensures .1)
 
 pub start-spec : {M : Type 1} → statement M
-start-spec = tie.close (tie.spec (λ c κs. search needs) returns)
+start-spec = tie.close (tie.spec (λ c κs. search needs) (λ c κs. search needs) returns)

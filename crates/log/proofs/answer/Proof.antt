@@ -1,0 +1,48 @@
+use denote.Ref.{now}
+use mathlib.Core.Path.{sym, ap, _∙_}
+use Rattle.controller.specs.Controller.{stateOf}
+use Rattle.frame.specs.declared.Framed.{Framed}
+use Rattle.frame.specs.Frame.{framedOutcome}
+use borrow.Author.Needs.{needs}
+use Rattle.log.proofs.answer.Statement.{statement}
+use Rattle.log.proofs.answer.Tie as tie
+
+enum-known-f : tie.Need-enum-known-f
+enum-known-f c = search needs
+
+step-requires : tie.Need-step-requires
+step-requires c κs = search needs
+
+enum-told : tie.Need-enum-told
+enum-told c = search needs
+
+not-a-frame-requires : tie.Need-not-a-frame-requires
+not-a-frame-requires c κs = search needs
+
+same-length : tie.Need-same-length
+same-length c = search needs
+
+returns : tie.Need-returns
+unfolding framedOutcome
+returns c =
+    let f = c .before .before .before .before .before in
+    let a = f .before .before .before .args in
+    c .before .before .step .ensures .outcome ∙ ap (λ (f : Framed). framedOutcome f (stateOf (a .c)) (a .start) (now (a .memory))) (sym (f .f .given .1))
+
+returns-2 : tie.Need-returns-2
+unfolding framedOutcome
+returns-2 c =
+    let a = c .before .before .before .before .args in
+    rw (c .not-a-frame .ensures) (ap (λ (f : Framed). framedOutcome f (stateOf (a .c)) (a .start) (now (a .memory))) (sym (c .before .enum-told .given .1)))
+
+pub answer-spec : {M : Type 1} → statement M
+answer-spec =
+    tie.close
+    (tie.spec
+    enum-known-f
+    step-requires
+    enum-told
+    not-a-frame-requires
+    same-length
+    returns
+    returns-2)
