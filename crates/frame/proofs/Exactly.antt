@@ -13,7 +13,7 @@ use Rattle.hex.specs.Hex.{allDigits, number, digits}
 use Rattle.hex.proofs.Numbers.{length-digits, all-append, all-parts, number-lt, digits-are, number-digits, digits-number}
 use Rattle.frame.specs.declared.Framed.the-variants.{Frame, NotAFrame}
 use Rattle.frame.specs.Frame.{part, isFrame, stepIn, frameOf}
-use Rattle.frame.specs.Exactly.{frameLine, Fits, FrameRead, FrameOnly}
+use Rattle.frame.specs.Exactly.{frameLine, StepFits, FrameRead, FrameOnly}
 use Rattle.frame.proofs.Digits.{all-part}
 
 -- ---- four parts joined, and taken apart
@@ -102,7 +102,7 @@ module _ (line : List ℕ) (n : length line ≡ 13) (all : allDigits line ≡ tr
       let k : length (part from count line) ≡ count = length-take-le count (drop from line) (omega (arith, length-drop from line)) in
       (rw k at (digits-number (part from count line) (all-part from count line all)), rw k at (number-lt (part from count line) (all-part from count line all)))
 
-  written : (line ≡ frameLine (stepIn line)) × Fits (stepIn line)
+  written : (line ≡ frameLine (stepIn line)) × StepFits (stepIn line)
   unfolding stepIn
   written =
       let a = part-is 0 2 (omega arith) in

@@ -13,7 +13,7 @@ abbrev pub frameLine : Step → List ℕ
 frameLine s = digits 2 (s .kind) ++ digits 2 (s .offset) ++ digits 1 (s .enables) ++ digits 8 (s .value)
 
 -- the numbers have no more digits than that
-pub record Fits (s : Step) : Type 0 where
+pub record StepFits (s : Step) : Type 0 where
   pub kind : s .kind < 16 ^ 2
   pub offset : s .offset < 16 ^ 2
   pub enables : s .enables < 16 ^ 1
@@ -21,8 +21,8 @@ pub record Fits (s : Step) : Type 0 where
 
 -- `frame-read`
 abbrev pub FrameRead : Type 0
-FrameRead = (s : Step) → Fits s → frameOf (frameLine s) ≡ Frame s
+FrameRead = (s : Step) → StepFits s → frameOf (frameLine s) ≡ Frame s
 
 -- `frame-only`
 abbrev pub FrameOnly : Type 0
-FrameOnly = (line : List ℕ) (s : Step) → frameOf line ≡ Frame s → (line ≡ frameLine s) × Fits s
+FrameOnly = (line : List ℕ) (s : Step) → frameOf line ≡ Frame s → (line ≡ frameLine s) × StepFits s

@@ -22,7 +22,7 @@ abbrev pub LineFits : Type 0
 LineFits = (a : Answer) → length (logLine a) ≤ lineRoom
 
 -- the numbers of an answer have no more digits than the log gives them
-pub record Fits (a : Answer) : Type 0 where
+pub record AnswerFits (a : Answer) : Type 0 where
   pub code : a .code < 16 ^ 2
   pub address : a .address < 16 ^ 8
   pub value : a .value < 16 ^ 8
@@ -30,7 +30,7 @@ pub record Fits (a : Answer) : Type 0 where
 
 -- `numbers-are-key`: the 20 digits before the label are the whole answer; nothing is told by the label alone
 abbrev pub NumbersAreKey : Type 0
-NumbersAreKey = (a b : Answer) → Fits a → Fits b → take 20 (logLine a) ≡ take 20 (logLine b) → a ≡ b
+NumbersAreKey = (a b : Answer) → AnswerFits a → AnswerFits b → take 20 (logLine a) ≡ take 20 (logLine b) → a ≡ b
 
 -- `wrote-unique`: two results that meet one contract of writing are the same, and so are the outputs
 abbrev pub WroteUnique : Type 0
