@@ -1,16 +1,16 @@
 -- A test computed for every number below a bound.
 use Prim.Native.Nat.{ℕ, zero, suc, _<_}
 use mathlib.Core.Path.{_≡_, refl}
-use mathlib.Core.Bool.{Bool, true, false, cond}
+use mathlib.Core.Bool.{Bool, true, false, _&&_}
 use native.Mathlib.Omega.{arith}
 use native.Mathlib.Decide.{ℕ-discrete}
 
 abbrev pub below : (ℕ → Bool) → ℕ → Bool
 below test zero = true
-below test (suc n) = cond (test n) (below test n) false
+below test (suc n) = test n && below test n
 
--- a test that goes on where the first holds
-pub both : (a b : Bool) → cond a b false ≡ true → (a ≡ true) × (b ≡ true)
+-- two tests joined
+pub both : (a b : Bool) → (a && b) ≡ true → (a ≡ true) × (b ≡ true)
 both true b e = (refl, e)
 both false b e = let z : false ≡ true = e in (z, cc)
 

@@ -2,7 +2,7 @@
 use Prim.Native.Nat.{ℕ, zero, suc, _≤_, zero-le}
 use mathlib.Core.Path.{_≡_, refl}
 use mathlib.Core.List.{List, [], _∷_}
-use mathlib.Core.Bool.{Bool, true, false, cond}
+use mathlib.Core.Bool.{Bool, true, _&&_}
 use lib.Dec.{leb}
 use native.Mathlib.Omega.{arith}
 use borrow.Author.Tests.{leb-true}
@@ -20,7 +20,7 @@ past code h = List·getD-eq-default labels [] h
 -- a test of the whole table, and what it says of one
 short : List (List ℕ) → Bool
 short [] = true
-short (l ∷ ls) = cond (leb (length l) 18) (short ls) false
+short (l ∷ ls) = leb (length l) 18 && short ls
 
 short-at : (ls : List (List ℕ)) → short ls ≡ true → (n : ℕ) → length (getD ls n []) ≤ 18
 unfolding short
