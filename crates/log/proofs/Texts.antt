@@ -6,7 +6,7 @@ use native.Mathlib.Decide.{ℕ-discrete}
 use Rattle.machine.specs.State.{State}
 use Rattle.machine.specs.Step.{stepOf}
 use Rattle.machine.specs.Event.{Event}
-use Rattle.machine.specs.Run.{Ran, run}
+use Rattle.machine.specs.Run.{RunOutcome, run}
 use Rattle.machine.specs.declared.Answer.{Answer}
 use Rattle.lines.specs.Lines.{linesFrom, lines}
 use Rattle.lines.proofs.Lines.{lines-lf, lines-other, lines-stop}
@@ -59,7 +59,7 @@ module _ (st : State) (start : ℕ) (memory : List ℕ) (ls : List (List ℕ)) w
   abbrev rest : Framed → Told
   rest f = toldOf (framedOutcome f st start memory .state) start (framedOutcome f st start memory .memory) ls
 
-  abbrev ran : Framed → Ran
+  abbrev ran : Framed → RunOutcome
   ran f = run st start memory (framed f ++ stepsIn ls)
 
   runs-step : (f : Framed) → Runs ls (rest f) (run (framedOutcome f st start memory .state) start (framedOutcome f st start memory .memory) (stepsIn ls))

@@ -5,7 +5,7 @@ use mathlib.Core.List.{List, [], _∷_, _++_, map}
 use lib.ListN.{length}
 use Rattle.machine.specs.State.{State, resetState}
 use Rattle.machine.specs.Event.{Event}
-use Rattle.machine.specs.Run.{Ran, run}
+use Rattle.machine.specs.Run.{RunOutcome, run}
 use Rattle.machine.specs.declared.Step.{Step}
 use Rattle.machine.specs.declared.Answer.{Answer}
 use Rattle.hex.specs.Hex.{bytes}
@@ -77,7 +77,7 @@ toFrames (line ∷ more) [] = []
 toFrames (line ∷ more) (a ∷ answers) = toFrame (frameOf line) a ++ toFrames more answers
 
 -- `text-runs`: what a text leaves, and its steps' answers, are those of the machine's run over its steps: so every theorem of runs is one of texts
-pub record Runs (ls : List (List ℕ)) (t : Told) (r : Ran) : Type 0 where
+pub record Runs (ls : List (List ℕ)) (t : Told) (r : RunOutcome) : Type 0 where
   pub state : t .state ≡ r .state
   pub memory : t .memory ≡ r .memory
   pub answers : toFrames ls (t .answers) ≡ map (λ (v : Event). v .answer) (r .events)
@@ -106,10 +106,10 @@ abbrev pub echo : List (List ℕ) → List ℕ
 echo [] = []
 echo (line ∷ more) = line ++ (lf ∷ []) ++ echo more
 
-abbrev pub firstOnly : List (List ℕ) → List ℕ
-firstOnly [] = []
-firstOnly (line ∷ more) = logOf (toldOf resetState 0 zeroWords (line ∷ []) .answers) ++ echo more
+abbrev pub echoing : List (List ℕ) → List ℕ
+echoing [] = []
+echoing (line ∷ more) = logOf (toldOf resetState 0 zeroWords (line ∷ []) .answers) ++ echo more
 
 -- `echoing-fails`: it fails the worked frames
 abbrev pub EchoingFails : Type 0
-EchoingFails = firstOnly (lines workedFrames) ≡ workedLog → ⊥
+EchoingFails = echoing (lines workedFrames) ≡ workedLog → ⊥

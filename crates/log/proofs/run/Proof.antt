@@ -6,7 +6,7 @@ use lib.ListN.{length}
 use Rattle.controller.specs.Controller.{stateOf}
 use Rattle.lines.specs.Lines.{lines}
 use Rattle.log.specs.Log.{textTold}
-use Rattle.log.specs.Results.{runOf}
+use Rattle.log.specs.Results.{textRun}
 use Rattle.log.proofs.Told.{told-length}
 use Rattle.log.proofs.Room.{short, long, log-end, with-log}
 use borrow.Author.Needs.{needs}
@@ -14,7 +14,7 @@ use Rattle.log.proofs.run.Statement.{statement}
 use Rattle.log.proofs.run.Tie as tie
 
 returns : tie.Need-returns
-unfolding runOf
+unfolding textRun
 returns c =
     let a = c .before .before .before .before .before .args in
     let few = short (length (lines (now (a .text)))) (now (a .out)) (rw (← c .before .line-count .ensures) (c .if1 .taken)) in
@@ -26,7 +26,7 @@ run-lines-requires c κs =
     omega (arith, e .if1 .left, e .before .line-count .ensures)
 
 returns-2 : tie.Need-returns-2
-unfolding runOf
+unfolding textRun
 returns-2 c =
     let g = c .before .before .before .before .before in
     let e = g .before .before .before in
