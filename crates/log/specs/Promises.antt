@@ -4,6 +4,7 @@ use mathlib.Core.Path.{_≡_}
 use mathlib.Core.List.{List, [], _∷_, _++_, map}
 use lib.ListN.{length}
 use Rattle.machine.specs.State.{State, resetState}
+use Rattle.machine.specs.Window.{zeroWords}
 use Rattle.machine.specs.Event.{Event}
 use Rattle.machine.specs.Run.{RunOutcome, run}
 use Rattle.machine.specs.declared.Step.{Step}
@@ -14,7 +15,7 @@ use Rattle.frame.specs.declared.Framed.{Framed}
 use Rattle.frame.specs.declared.Framed.the-variants.{Frame, NotAFrame}
 use Rattle.frame.specs.Frame.{frameOf}
 use Rattle.logline.specs.LogLine.{logBody}
-use Rattle.log.specs.Log.{logOf, zeroWords, Told, toldOf, after, textTold, fedOf}
+use Rattle.log.specs.Log.{logOf, Told, toldOf, after, textTold, fedOf}
 
 -- ---- one log line for each line
 

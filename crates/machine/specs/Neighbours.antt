@@ -3,8 +3,9 @@ use Prim.Native.Nat.{ℕ}
 use mathlib.Core.List.{List, [], _∷_, _++_, map}
 use lib.ListN.{set, replicate}
 use Rattle.machine.specs.State.{State, Lane, resetState, resetLane}
+use Rattle.machine.specs.Window.{zeroWords}
 use Rattle.machine.specs.Run.{run}
-use Rattle.machine.specs.Examples.{Example, Meets, stepBy, pciRead, pciWrite, addonRead, addonWrite, writeCycle, readCycle, says, ok, moves, refuses, absent, high, zeros, example}
+use Rattle.machine.specs.Examples.{Example, Meets, stepBy, pciRead, pciWrite, addonRead, addonWrite, writeCycle, readCycle, says, ok, moves, refuses, absent, high, example}
 use Rattle.machine.specs.declared.Step.{Step}
 use Rattle.machine.specs.declared.Answer.{Answer}
 
@@ -41,14 +42,14 @@ outOfForm =
     ∷ stateOf resetLane resetLane 0x100000 0x800 ∷ stateOf resetLane resetLane 0x100000 0x80 ∷ stateOf resetLane resetLane 0x100000 0x08000000 ∷ []
 
 abbrev pub formCases : List Example
-formCases = map (λ st. case st 0 zeros anyKinds (sameFour (refuses 1))) outOfForm
+formCases = map (λ st. case st 0 zeroWords anyKinds (sameFour (refuses 1))) outOfForm
 
 -- as full as form allows, so a chip reset is done; the window's faults; the largest window and the empty one
 abbrev pub windowCases : List Example
 windowCases =
-    case (stateOf (laneOf (replicate 8 0) 0xFFFFFFFC 0x03FFFFFF) (laneOf (replicate 8 0) 4 1) 0x3FDF1F 0xF700) 0 zeros (stepBy 6 0xFF 99 5 ∷ []) (ok ∷ [])
-    ∷ case abortStanding 1 zeros anyKinds (sameFour (high (refuses 2)))
-    ∷ case abortStanding 2 zeros anyKinds (sameFour (high (refuses 2)))
+    case (stateOf (laneOf (replicate 8 0) 0xFFFFFFFC 0x03FFFFFF) (laneOf (replicate 8 0) 4 1) 0x3FDF1F 0xF700) 0 zeroWords (stepBy 6 0xFF 99 5 ∷ []) (ok ∷ [])
+    ∷ case abortStanding 1 zeroWords anyKinds (sameFour (high (refuses 2)))
+    ∷ case abortStanding 2 zeroWords anyKinds (sameFour (high (refuses 2)))
     ∷ case abortStanding 0 (replicate 16385 0) anyKinds (sameFour (high (refuses 2)))
     ∷ case resetState 0xFFFFFFFC (replicate 16384 0) (stepBy 6 0 0 0 ∷ []) (ok ∷ [])
     ∷ case (stateOf (laneOf [] 0 4) (laneOf (7 ∷ []) 0 4) 0 0x4400) 0 [] (writeCycle ∷ stepBy 6 0 0 0 ∷ []) (absent 0 ∷ ok ∷ [])
@@ -70,7 +71,7 @@ windowCases =
     ∷ case (stateOf (laneOf [] 0xFFFFFFFC 8) resetLane 0 0x4000) 0xFFFFFFFC (1 ∷ 2 ∷ []) (readCycle ∷ readCycle ∷ pciRead 0x2C ∷ [])
     (moves 0xFFFFFFFC 1 0xF ∷ moves 0 2 0xF ∷ says 4 ∷ [])
     -- below the start there is no memory
-    ∷ case (stateOf resetLane (laneOf (1 ∷ []) 0xFC 4) 0 0x400) 0x100 zeros (writeCycle ∷ []) (absent 0xFC ∷ [])
+    ∷ case (stateOf resetLane (laneOf (1 ∷ []) 0xFC 4) 0 0x400) 0x100 zeroWords (writeCycle ∷ []) (absent 0xFC ∷ [])
     ∷ []
 
 -- ---- codes 3 to 8, lowest first
@@ -131,7 +132,7 @@ cycleCases =
     ∷ pciRead 0x20 ∷ [])
     (ok ∷ ok ∷ ok ∷ ok ∷ says 0xC6 ∷ refuses 8 ∷ ok ∷ refuses 8 ∷ [])
     -- read cycles with count 6: the second lets in two bytes; the count's zero sets 19, whose line 15 enables
-    ∷ case resetState 0 (set (set zeros 0xFFE 0x11223344) 0xFFF 0x55667788)
+    ∷ case resetState 0 (set (set zeroWords 0xFFE 0x11223344) 0xFFF 0x55667788)
     (pciWrite 0x2C 0x3FF8 ∷ pciWrite 0x30 6 ∷ pciWrite 0x3C 0x4000 ∷ readCycle ∷ readCycle ∷ readCycle ∷ pciRead 0x38 ∷ pciRead 0x2C ∷ pciRead 0x30
     ∷ addonRead 0x20 ∷ addonRead 0x20 ∷ pciWrite 0x38 0x8000 ∷ pciRead 0x38 ∷ [])
     (ok ∷ ok ∷ ok ∷ moves 0x3FF8 0x11223344 0xF ∷ moves 0x3FFC 0x7788 0x3 ∷ refuses 10 ∷ says 0x80000 ∷ says 0x4000 ∷ says 0

@@ -5,9 +5,9 @@ use mathlib.Core.List.{List, []}
 use mathlib.Core.Bool.{Bool, true, false, cond}
 use lib.IntN.{ℤ, pos, negsuc}
 use lib.ListN.{length}
-use Rattle.log.specs.Log.{zeroWords}
 use lib.Dec.{ltb}
 use Rattle.machine.specs.State.{resetState}
+use Rattle.machine.specs.Window.{zeroWords}
 use Rattle.log.specs.declared.Logged.{Logged}
 use Rattle.log.specs.declared.Logged.the-variants.{Written, NoRoom}
 use Rattle.log.specs.Results.{TextRun, textRun}
