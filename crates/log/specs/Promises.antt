@@ -5,7 +5,7 @@ use mathlib.Core.List.{List, [], _∷_, _++_, map}
 use lib.ListN.{length}
 use Rattle.machine.specs.State.{State, resetState}
 use Rattle.machine.specs.Window.{zeroWords}
-use Rattle.machine.specs.Event.{Event}
+use Rattle.machine.specs.Event.{answers}
 use Rattle.machine.specs.Run.{RunOutcome, run}
 use Rattle.machine.specs.declared.Step.{Step}
 use Rattle.machine.specs.declared.Answer.{Answer}
@@ -81,7 +81,7 @@ toFrames (line ∷ more) (a ∷ answers) = toFrame (frameOf line) a ++ toFrames 
 pub record Runs (ls : List (List ℕ)) (t : Told) (r : RunOutcome) : Type 0 where
   pub state : t .state ≡ r .state
   pub memory : t .memory ≡ r .memory
-  pub answers : toFrames ls (t .answers) ≡ map (λ (v : Event). v .answer) (r .events)
+  pub answers : toFrames ls (t .answers) ≡ answers (r .events)
 
 abbrev pub TextRuns : Type 0
 TextRuns = (st : State) (start : ℕ) (memory : List ℕ) (ls : List (List ℕ)) → Runs ls (toldOf st start memory ls) (run st start memory (stepsIn ls))

@@ -6,7 +6,7 @@ use mathlib.Core.List.{List, [], _∷_, _++_, map}
 use lib.ListN.{getD, set}
 use Rattle.machine.specs.State.{State, resetState}
 use Rattle.machine.specs.Window.{zeroWords}
-use Rattle.machine.specs.Event.{Event}
+use Rattle.machine.specs.Event.{answers}
 use Rattle.machine.specs.Run.{Run, run}
 use Rattle.machine.specs.declared.Step.{Step}
 use Rattle.machine.specs.declared.Answer.{Answer}
@@ -31,11 +31,11 @@ expected e = record { answers = e .answers; words = e .words }
 abbrev pub got : Run → Example → Seen
 got model e =
     let r = model (e .state) (e .start) (e .memory) (e .steps) in
-    record { answers = map (λ (v : Event). v .answer) (r .events); words = map (λ k. getD (r .memory) k 0) (e .places) }
+    record { answers = answers (r .events); words = map (λ k. getD (r .memory) k 0) (e .places) }
 
 -- a run shows what every example of a table expects
-abbrev pub Meets : Run → List Example → Type 0
-Meets model table = map (got model) table ≡ map expected table
+abbrev pub MeetsTable : Run → List Example → Type 0
+MeetsTable model table = map (got model) table ≡ map expected table
 
 -- ---- steps and answers by name
 
@@ -159,4 +159,4 @@ marked =
 
 -- `marked-hold`: the machine meets them all
 abbrev pub MarkedHold : Type 0
-MarkedHold = Meets run marked
+MarkedHold = MeetsTable run marked

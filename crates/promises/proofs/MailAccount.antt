@@ -18,7 +18,7 @@ use Rattle.machine.specs.Code.{codeOf}
 use Rattle.machine.specs.Step.{replyOf, stateAfter, stepOf, respond, answered, doneState, abortedState}
 use Rattle.machine.specs.Event.{Event}
 use Rattle.machine.specs.Run.{run}
-use Rattle.promises.specs.Account.{Touch, write, read, clear, none, isDone, toByte, ownerWrites, otherReads, clearsByte, touch, later, latest, isWrite}
+use Rattle.promises.specs.Account.{Touch, write, read, clear, none, isDone, toByte, ownerWrites, otherReads, clearsByte, touch, later, latest, wasWrite}
 use Rattle.promises.specs.Theorems.{MailAccount}
 use Rattle.machine.specs.declared.Step.{Step}
 use Rattle.promises.proofs.Numbers.{named, reset-is, commands-is}
@@ -95,7 +95,7 @@ after-later read t b = refl
 after-later clear t b = refl
 after-later none t b = refl
 
-after-false : (t : Touch) → after t false ≡ isWrite t
+after-false : (t : Touch) → after t false ≡ wasWrite t
 after-false write = refl
 after-false read = refl
 after-false clear = refl

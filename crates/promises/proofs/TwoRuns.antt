@@ -11,9 +11,9 @@ use Rattle.machine.specs.Words.{bit}
 use Rattle.machine.specs.Sides.{Side, pci, addon}
 use Rattle.machine.specs.State.{State, resetState}
 use Rattle.machine.specs.Step.{stepOf}
-use Rattle.machine.specs.Event.{Event}
+use Rattle.machine.specs.Event.{Event, answers}
 use Rattle.machine.specs.Run.{run}
-use Rattle.promises.specs.Account.{isDone, isKind, command, clears, wordsIn, wordsOut, Tally, fresh, tallyAfter, talliedFrom, Alike, AllAlike, none, more, answers, NoClear, accepted, Agreed}
+use Rattle.promises.specs.Account.{isDone, isKind, command, clears, wordsIn, wordsOut, Tally, fresh, tallyAfter, talliedFrom, Alike, AllAlike, noSteps, oneMore, NoClear, accepted, Agreed}
 use Rattle.promises.specs.Theorems.{TwoRunsSince, TwoRuns}
 use Rattle.machine.specs.declared.Step.{Step}
 use Rattle.promises.proofs.FifoAccount.{fifo-account}
@@ -30,8 +30,8 @@ data Twins : List Event → List Event → Type 0 where
 
 twins : {ss ts : List Step} (st st′ : State) (start : ℕ) (m m′ : List ℕ) → AllAlike ss ts
     → answers (run st start m ss .events) ≡ answers (run st′ start m′ ts .events) → Twins (run st start m ss .events) (run st′ start m′ ts .events)
-twins st st′ start m m′ none e = nil
-twins st st′ start m m′ (more {s = s} {t = t} a al) e =
+twins st st′ start m m′ noSteps e = nil
+twins st st′ start m m′ (oneMore {s = s} {t = t} a al) e =
     let o = stepOf st start m s in
     let p = stepOf st′ start m′ t in
     cons (record { steps = a; same = head-eq-of-cons-eq e }) (twins (o .state) (p .state) start (o .memory) (p .memory) al (tail-eq-of-cons-eq e))
