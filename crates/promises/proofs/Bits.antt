@@ -158,7 +158,7 @@ bits-below (suc n) a b ha hb h =
     let high = bits-below n (a / 2) (b / 2) (omega arith) (omega arith) (λ k. sym (bit-half a k) ∙ h (suc k) ∙ bit-half b k) in
     omega arith
 
-pub by-bits : (a b : ℕ) → ((k : ℕ) → bit a k ≡ bit b k) → a ≡ b
+by-bits : (a b : ℕ) → ((k : ℕ) → bit a k ≡ bit b k) → a ≡ b
 by-bits a b h = bits-below (a + b) a b (omega (arith, lt-power (a + b))) (omega (arith, lt-power (a + b))) h
 
 -- ---- no bit other than those of y
@@ -175,7 +175,7 @@ pub only-and : (y a b : ℕ) → Only y b → Only y (bitAnd a b)
 only-and y a b q =
     by-bits (bitAnd (bitAnd a b) y) (bitAnd a (bitAnd b y)) (λ k. simp bit-and (and-assoc (bit a k) (bit b k) (bit y k))) ∙ ap (λ (c : ℕ). bitAnd a c) q
 
-pub and-swap : (a b : ℕ) → bitAnd a b ≡ bitAnd b a
+and-swap : (a b : ℕ) → bitAnd a b ≡ bitAnd b a
 and-swap a b = by-bits (bitAnd a b) (bitAnd b a) (λ k. simp bit-and (and-comm (bit a k) (bit b k)))
 
 pub only-and-left : (y a b : ℕ) → Only y a → Only y (bitAnd a b)
