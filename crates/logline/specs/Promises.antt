@@ -4,10 +4,9 @@ use mathlib.Core.Path.{_≡_}
 use mathlib.Core.List.{List}
 use lib.ListN.{length, take}
 use Rattle.machine.specs.declared.Answer.{Answer}
-use Rattle.hex.specs.Hex.{bytes}
 use Rattle.logline.specs.Wrote.{Wrote}
 use Rattle.logline.specs.Labels.{labelOf}
-use Rattle.logline.specs.LogLine.{numbers, logLine, lineRoom}
+use Rattle.logline.specs.LogLine.{logLine, lineRoom}
 
 -- `labels-short`: no label is above 18 bytes
 abbrev pub LabelsShort : Type 0
