@@ -14,7 +14,7 @@ use lib.ListN.{length, getD, drop, take, drop-of-length-le}
 use lib.Seq.{drop-cons}
 use lib.Dec.{ltb, lit<}
 use Rattle.hex.specs.Hex.{digitNumber, allDigits, numberFrom}
-use Rattle.hex.proofs.Numbers.{all-parts}
+use Rattle.hex.proofs.Below.{both}
 
 module _ (s : List ℕ) (i : ℕ) where
   pub all-more : i < length s → digitNumber (getD s i 0) < 16 → allDigits (drop i s) ≡ allDigits (drop (i + 1) s)
@@ -44,14 +44,14 @@ all-drop : (k : ℕ) (s : List ℕ) → allDigits s ≡ true → allDigits (drop
 unfolding allDigits
 all-drop zero s e = e
 all-drop (suc k) [] e = refl
-all-drop (suc k) (b ∷ s) e = all-drop k s (all-parts (ltb (digitNumber b) 16) (allDigits s) e .1)
+all-drop (suc k) (b ∷ s) e = all-drop k s (both (ltb (digitNumber b) 16) (allDigits s) e .1)
 
 all-take : (k : ℕ) (s : List ℕ) → allDigits s ≡ true → allDigits (take k s) ≡ true
 unfolding allDigits
 all-take zero s e = refl
 all-take (suc k) [] e = refl
 all-take (suc k) (b ∷ s) e =
-    let parts = all-parts (ltb (digitNumber b) 16) (allDigits s) e in
+    let parts = both (ltb (digitNumber b) 16) (allDigits s) e in
     rw (parts .0) (all-take k s (parts .1))
 
 pub all-part : (from count : ℕ) (s : List ℕ) → allDigits s ≡ true → allDigits (take count (drop from s)) ≡ true

@@ -26,13 +26,13 @@ const WRITE_COUNT_ENABLE: u32 = 14;
 const READ_COUNT_ENABLE: u32 = 15;
 
 // The flags.
-const OUTGOING: u32 = 16;
+const OUTGOING_FLAG: u32 = 16;
 
-const INCOMING: u32 = 17;
+const INCOMING_FLAG: u32 = 17;
 
-const WRITE_COUNT: u32 = 18;
+const WRITE_COUNT_FLAG: u32 = 18;
 
-const READ_COUNT: u32 = 19;
+const READ_COUNT_FLAG: u32 = 19;
 
 const MASTER_ABORT: u32 = 20;
 
@@ -71,19 +71,19 @@ pub fn intcsr_after(c: Controller, s: Step) -> u32
 {
     let i = c.intcsr;
     if s.kind == kinds::ADDON_READ {
-        return word::raised(i, outgoing_event(i, s), OUTGOING);
+        return word::raised(i, outgoing_event(i, s), OUTGOING_FLAG);
     }
     if (s.kind == kinds::PCI_WRITE) & (s.offset == offsets::INTCSR) {
         return written(i, s.value, s.enables);
     }
     if s.kind == kinds::ADDON_WRITE {
-        return word::raised(i, incoming_event(i, s), INCOMING);
+        return word::raised(i, incoming_event(i, s), INCOMING_FLAG);
     }
     if s.kind == kinds::WRITE_CYCLE {
-        return word::raised(i, count::runs_out(c.from_addon.count), WRITE_COUNT);
+        return word::raised(i, count::runs_out(c.from_addon.count), WRITE_COUNT_FLAG);
     }
     if s.kind == kinds::READ_CYCLE {
-        return word::raised(i, count::runs_out(c.from_pci.count), READ_COUNT);
+        return word::raised(i, count::runs_out(c.from_pci.count), READ_COUNT_FLAG);
     }
     i
 }
@@ -106,10 +106,10 @@ pub fn aborted(i: u32) -> u32
 pub fn line(i: u32) -> bool
     ensures { λ r. ⌜ r ≡ lineOf i ⌝ }
 {
-    word::bit(i, OUTGOING) & word::bit(i, OUTGOING_ENABLE)
-        | word::bit(i, INCOMING) & word::bit(i, INCOMING_ENABLE)
-        | word::bit(i, WRITE_COUNT) & word::bit(i, WRITE_COUNT_ENABLE)
-        | word::bit(i, READ_COUNT) & word::bit(i, READ_COUNT_ENABLE)
+    word::bit(i, OUTGOING_FLAG) & word::bit(i, OUTGOING_ENABLE)
+        | word::bit(i, INCOMING_FLAG) & word::bit(i, INCOMING_ENABLE)
+        | word::bit(i, WRITE_COUNT_FLAG) & word::bit(i, WRITE_COUNT_ENABLE)
+        | word::bit(i, READ_COUNT_FLAG) & word::bit(i, READ_COUNT_ENABLE)
         | is_abort_in(i)
 }
 

@@ -9,8 +9,7 @@ use lib.ListN.{getD}
 use lib.Dec.{eqb}
 use Rattle.machine.specs.declared.Answer.{Answer}
 use Rattle.hex.specs.Hex.{bytes, hexDigits, digitOf, digits}
-use Rattle.hex.proofs.Below.{below-at}
-use Rattle.hex.proofs.Numbers.{all-parts}
+use Rattle.hex.proofs.Below.{both, below-at}
 use Rattle.lines.specs.Lines.{linesFrom}
 use Rattle.lines.proofs.Lines.{lines-lf, lines-other, lines-stop}
 use Rattle.logline.specs.Labels.{labels, labelOf}
@@ -27,7 +26,7 @@ no-append : (xs ys : List ℕ) → noLf xs ≡ true → noLf ys ≡ true → noL
 unfolding noLf
 no-append [] ys e f = f
 no-append (x ∷ xs) ys e f =
-    let parts = all-parts (not (eqb x 10)) (noLf xs) e in
+    let parts = both (not (eqb x 10)) (noLf xs) e in
     rw (parts .0) (no-append xs ys (parts .1) f)
 
 no-digit : (k : ℕ) → k < 16 → noLf (digitOf k ∷ []) ≡ true
@@ -46,8 +45,8 @@ noneLf (l ∷ ls) = noLf l && noneLf ls
 none-at : (ls : List (List ℕ)) → noneLf ls ≡ true → (n : ℕ) → noLf (getD ls n []) ≡ true
 unfolding noLf noneLf
 none-at [] e n = refl
-none-at (l ∷ ls) e zero = all-parts (noLf l) (noneLf ls) e .0
-none-at (l ∷ ls) e (suc n) = none-at ls (all-parts (noLf l) (noneLf ls) e .1) n
+none-at (l ∷ ls) e zero = both (noLf l) (noneLf ls) e .0
+none-at (l ∷ ls) e (suc n) = none-at ls (both (noLf l) (noneLf ls) e .1) n
 
 no-label : (code : ℕ) → noLf (labelOf code) ≡ true
 unfolding noLf noneLf labelOf labels
@@ -75,7 +74,7 @@ body-line : (begun xs ys : List ℕ) → noLf xs ≡ true → linesFrom begun (x
 unfolding noLf
 body-line begun [] ys e = lines-lf begun 10 ys refl ∙ rw append-nil
 body-line begun (x ∷ xs) ys e =
-    let parts = all-parts (not (eqb x 10)) (noLf xs) e in
+    let parts = both (not (eqb x 10)) (noLf xs) e in
     lines-other begun x (xs ++ (10 ∷ ys)) (not-lf x (parts .0)) ∙ body-line (begun ++ (x ∷ [])) xs ys (parts .1) ∙ rw append-assoc
 
 pub one-line-each : OneLineEach

@@ -27,23 +27,23 @@ frame-clip l (no h) =
     simp (ne-eqb (length (take 14 l)) 13 (λ e. omega arith), ne-eqb (length l) 13 (λ e. omega arith))
 
 -- l and k agree in them
-abbrev Same : List ℕ → List ℕ → Type 0
-Same l k = take 14 l ≡ take 14 k
+abbrev SameStart : List ℕ → List ℕ → Type 0
+SameStart l k = take 14 l ≡ take 14 k
 
 pub take-clip : (n : ℕ) (l t : List ℕ) → take n (take n l ++ t) ≡ take n (l ++ t)
 take-clip zero l t = refl
 take-clip (suc n) [] t = refl
 take-clip (suc n) (a ∷ l) t = ap (λ (r : List ℕ). a ∷ r) (take-clip n l t)
 
-same-more : (l k : List ℕ) (x : ℕ) → Same l k → Same (l ++ (x ∷ [])) (k ++ (x ∷ []))
+same-more : (l k : List ℕ) (x : ℕ) → SameStart l k → SameStart (l ++ (x ∷ [])) (k ++ (x ∷ []))
 same-more l k x e = sym (take-clip 14 l (x ∷ [])) ∙ ap (λ (r : List ℕ). take 14 (r ++ (x ∷ []))) e ∙ take-clip 14 k (x ∷ [])
 
 module _ (st : State) (start : ℕ) (memory : List ℕ) where
-  line-same : (l k : List ℕ) (ls : List (List ℕ)) → Same l k → toldOf st start memory (l ∷ ls) ≡ toldOf st start memory (k ∷ ls)
+  line-same : (l k : List ℕ) (ls : List (List ℕ)) → SameStart l k → toldOf st start memory (l ∷ ls) ≡ toldOf st start memory (k ∷ ls)
   unfolding toldOf lineOutcome
   line-same l k ls e = rw (sym (frame-clip l (decLe (length l) 14)) ∙ ap frameOf e ∙ frame-clip k (decLe (length k) 14))
 
-  end-same : (l k : List ℕ) → Same l k → Dec (0 < length l) → toldOf st start memory (linesFrom l []) ≡ toldOf st start memory (linesFrom k [])
+  end-same : (l k : List ℕ) → SameStart l k → Dec (0 < length l) → toldOf st start memory (linesFrom l []) ≡ toldOf st start memory (linesFrom k [])
   end-same l k e (yes h) =
       let j : 0 < length k = omega (arith, length-take 14 l, length-take 14 k, ap length e) in
       rw (lines-end l h, lines-end k j) (line-same l k [] e)
@@ -52,13 +52,13 @@ module _ (st : State) (start : ℕ) (memory : List ℕ) where
       let j : length k ≡ 0 = omega (arith, length-take 14 l, length-take 14 k, ap length e) in
       rw (lines-stop l i, lines-stop k j)
 
-  same-step : (l k : List ℕ) (x : ℕ) (xs : List ℕ) → Same l k
+  same-step : (l k : List ℕ) (x : ℕ) (xs : List ℕ) → SameStart l k
       → toldOf st start memory (linesFrom (l ++ (x ∷ [])) xs) ≡ toldOf st start memory (linesFrom (k ++ (x ∷ [])) xs) → Dec (x ≡ 10)
       → toldOf st start memory (linesFrom l (x ∷ xs)) ≡ toldOf st start memory (linesFrom k (x ∷ xs))
   same-step l k x xs e ih (yes h) = rw (lines-lf l x xs h, lines-lf k x xs h) (line-same l k (linesFrom [] xs) e)
   same-step l k x xs e ih (no h) = rw (lines-other l x xs h, lines-other k x xs h) ih
 
-  told-same : (l k xs : List ℕ) → Same l k → toldOf st start memory (linesFrom l xs) ≡ toldOf st start memory (linesFrom k xs)
+  told-same : (l k xs : List ℕ) → SameStart l k → toldOf st start memory (linesFrom l xs) ≡ toldOf st start memory (linesFrom k xs)
   told-same l k [] e = end-same l k e (decLt 0 (length l))
   told-same l k (x ∷ xs) e = same-step l k x xs e (told-same (l ++ (x ∷ [])) (k ++ (x ∷ [])) xs (same-more l k x e)) (ℕ-discrete x 10)
 
@@ -98,9 +98,9 @@ piece-told st start memory begun (x ∷ a) b =
 
 -- ---- what has begun is no more than 14 bytes, none an LF
 
-pub record Begun (begun : List ℕ) : Type 0 where
-  pub few : length begun ≤ 14
-  pub whole : (xs : List ℕ) → linesFrom [] (begun ++ xs) ≡ linesFrom begun xs
+record Begun (begun : List ℕ) : Type 0 where
+  few : length begun ≤ 14
+  whole : (xs : List ℕ) → linesFrom [] (begun ++ xs) ≡ linesFrom begun xs
 
 begun-none : Begun []
 begun-none = record { few = omega arith; whole = λ xs. refl }

@@ -1,12 +1,12 @@
 -- Texts joined after an LF, and a text as a run of its steps.
 use Prim.Native.Nat.{ℕ}
 use mathlib.Core.Path.{_≡_, refl, ap, _∙_}
-use mathlib.Core.List.{List, [], _∷_, _++_, map}
+use mathlib.Core.List.{List, [], _∷_, _++_}
 use native.Mathlib.Decide.{ℕ-discrete}
 use Rattle.machine.specs.State.{State}
 use Rattle.machine.specs.Step.{stepOf}
-use Rattle.machine.specs.Event.{Event}
-use Rattle.machine.specs.Run.{Ran, run}
+use Rattle.machine.specs.Event.{answers}
+use Rattle.machine.specs.Run.{RunOutcome, run}
 use Rattle.machine.specs.declared.Answer.{Answer}
 use Rattle.lines.specs.Lines.{linesFrom, lines}
 use Rattle.lines.proofs.Lines.{lines-lf, lines-other, lines-stop}
@@ -59,13 +59,13 @@ module _ (st : State) (start : ℕ) (memory : List ℕ) (ls : List (List ℕ)) w
   abbrev rest : Framed → Told
   rest f = toldOf (framedOutcome f st start memory .state) start (framedOutcome f st start memory .memory) ls
 
-  abbrev ran : Framed → Ran
+  abbrev ran : Framed → RunOutcome
   ran f = run st start memory (framed f ++ stepsIn ls)
 
   runs-step : (f : Framed) → Runs ls (rest f) (run (framedOutcome f st start memory .state) start (framedOutcome f st start memory .memory) (stepsIn ls))
       → (rest f .state ≡ ran f .state)
       × (rest f .memory ≡ ran f .memory)
-      × (toFrame f (framedOutcome f st start memory .answer) ++ toFrames ls (rest f .answers) ≡ map (λ (v : Event). v .answer) (ran f .events))
+      × (toFrame f (framedOutcome f st start memory .answer) ++ toFrames ls (rest f .answers) ≡ answers (ran f .events))
   unfolding framedOutcome
   runs-step (Frame s) h = (h .state, h .memory, ap (λ (l : List Answer). stepOf st start memory s .answer ∷ l) (h .answers))
   runs-step NotAFrame h = (h .state, h .memory, h .answers)

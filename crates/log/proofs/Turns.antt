@@ -19,7 +19,7 @@ use Rattle.machine.specs.Step.{Outcome}
 use Rattle.machine.specs.declared.Step.{Step}
 use Rattle.machine.specs.declared.Answer.{Answer}
 use Rattle.hex.specs.Hex.{hexDigits, placeIn, digitNumber, allDigits}
-use Rattle.hex.proofs.Numbers.{all-parts}
+use Rattle.hex.proofs.Below.{both}
 use Rattle.lines.specs.Lines.{untilLf, lineAt, lineEnd}
 use Rattle.lines.proofs.Positions.{until-lf, until-more, end-within}
 use Rattle.frame.specs.declared.Framed.{Framed}
@@ -73,8 +73,8 @@ until-digits zero [] d e = absurd (omega arith)
 until-digits zero (x ∷ xs) d e = until-lf x xs e
 until-digits (suc n) [] d e = absurd (omega arith)
 until-digits (suc n) (x ∷ xs) d e =
-    let both = all-parts (ltb (digitNumber x) 16) (allDigits (take n xs)) d in
-    until-more x xs (digit-other x (both .0)) ∙ ap suc (until-digits n xs (both .1) e)
+    let parts = both (ltb (digitNumber x) 16) (allDigits (take n xs)) d in
+    until-more x xs (digit-other x (parts .0)) ∙ ap suc (until-digits n xs (parts .1) e)
 
 getd-within : (n : ℕ) (xs : List ℕ) → getD xs n 0 ≡ 10 → n < length xs
 getd-within n [] e = absurd (omega arith)
@@ -92,7 +92,7 @@ no-frame s e = let w : _≡_ {A = ℕ} 0 1 = cc in absurd (omega arith)
 
 digits-in : (line : List ℕ) (s : Step) (t : Bool) → isFrame line ≡ t → frameOf line ≡ Frame s → allDigits line ≡ true
 unfolding frameOf isFrame
-digits-in line s true q e = all-parts (eqb (length line) 13) (allDigits line) q .1
+digits-in line s true q e = both (eqb (length line) 13) (allDigits line) q .1
 digits-in line s false q e = absurd (no-frame s (rw q at e))
 
 frame-by : (xs : List ℕ) (s : Step) (t : Bool) → eqb (getD xs 13 0) 10 ≡ t → cond t (frameOf (take 13 xs)) NotAFrame ≡ Frame s → FrameLine xs s

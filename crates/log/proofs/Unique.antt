@@ -1,16 +1,16 @@
 -- Two results that meet one contract are the same.
 use mathlib.Core.Path.{sym, _∙_, ap}
-use Rattle.log.specs.Results.{Run, Piece}
+use Rattle.log.specs.Results.{TextRun, Piece}
 use Rattle.log.specs.Unique.{RunUnique, FeedUnique}
 
 pub run-unique : RunUnique
 run-unique c start memory text out r q memory′ memory″ out′ out″ p o =
     let same = p .ran ∙ sym (o .ran) in
     record {
-      state = ap (λ (v : Run). v .state) same;
-      log = ap (λ (v : Run). v .log) same;
-      stored = ap (λ (v : Run). v .memory) same;
-      written = ap (λ (v : Run). v .out) same;
+      state = ap (λ (v : TextRun). v .state) same;
+      log = ap (λ (v : TextRun). v .log) same;
+      stored = ap (λ (v : TextRun). v .memory) same;
+      written = ap (λ (v : TextRun). v .out) same;
       refused = λ e. p .refused e ∙ sym (o .refused e);
     }
 

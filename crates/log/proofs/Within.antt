@@ -16,7 +16,7 @@ use Rattle.log.specs.declared.Ran.{Ran}
 use Rattle.log.specs.declared.Stream.{Stream}
 use Rattle.log.specs.declared.Streamed.{Streamed}
 use Rattle.log.specs.Log.{logOf, textTold, fedOf}
-use Rattle.log.specs.Results.{withLog, isWithin, isShort, Run, runOf, RunPromised, begunOf, Piece, pieceOf, FeedPromised}
+use Rattle.log.specs.Results.{withLog, isWithin, isShort, TextRun, textRun, RunPromised, begunOf, Piece, pieceOf, FeedPromised}
 
 within : (answers : List Answer) (out : List ℕ) → isWithin (Written (length (logOf answers))) (withLog answers out) ≡ true
 unfolding isWithin withLog
@@ -25,15 +25,15 @@ within answers out =
     le-leb (length log) (length (log ++ drop (length log) out)) (rw length-append (omega arith))
 
 run-by : (st : State) (start : ℕ) (memory text out : List ℕ) (t : Bool) → isShort (length (lines text)) out ≡ t
-    → isWithin (runOf st start memory text out .log) (runOf st start memory text out .out) ≡ true
-unfolding runOf isWithin
+    → isWithin (textRun st start memory text out .log) (textRun st start memory text out .out) ≡ true
+unfolding textRun isWithin
 run-by st start memory text out true q = rw q
 run-by st start memory text out false q = rw q (within (textTold st start memory text .answers) out)
 
 pub run-within : {c : Controller} {start : ℕ} {memory text out : List ℕ} {r : Ran} {memory′ out′ : List ℕ}
     → RunPromised c start memory text out r memory′ out′ → isWithin (r .log) out′ ≡ true
 run-within {c} {start} {memory} {text} {out} p =
-    ap (λ (q : Run). isWithin (q .log) (q .out)) (p .ran) ∙ run-by (stateOf c) start memory text out (isShort (length (lines text)) out) refl
+    ap (λ (q : TextRun). isWithin (q .log) (q .out)) (p .ran) ∙ run-by (stateOf c) start memory text out (isShort (length (lines text)) out) refl
 
 piece-by : (st : State) (start : ℕ) (memory begun piece out : List ℕ) (t : Bool) → isShort (length piece) out ≡ t
     → isWithin (pieceOf st start memory begun piece out .log) (pieceOf st start memory begun piece out .out) ≡ true

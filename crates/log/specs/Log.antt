@@ -2,7 +2,7 @@
 use Prim.Native.Nat.{ℕ}
 use mathlib.Core.List.{List, [], _∷_, _++_}
 use mathlib.Core.Bool.{cond}
-use lib.ListN.{take, replicate}
+use lib.ListN.{take}
 use lib.Dec.{eqb}
 use Rattle.machine.specs.State.{State}
 use Rattle.machine.specs.Step.{Outcome}
@@ -19,10 +19,6 @@ lineOutcome st start memory line = framedOutcome (frameOf line) st start memory
 unfoldable pub logOf : List Answer → List ℕ
 logOf [] = []
 logOf (a ∷ more) = logLine a ++ logOf more
-
--- "4,096 zero words of memory at address 0", where the log program and the C call begin
-abbrev pub zeroWords : List ℕ
-zeroWords = replicate 4096 0
 
 -- ---- a text
 

@@ -4,8 +4,9 @@ use mathlib.Core.Path.{_≡_}
 use mathlib.Core.List.{List, [], _∷_, _++_, map}
 use lib.ListN.{length}
 use Rattle.machine.specs.State.{State, resetState}
-use Rattle.machine.specs.Event.{Event}
-use Rattle.machine.specs.Run.{Ran, run}
+use Rattle.machine.specs.Window.{zeroWords}
+use Rattle.machine.specs.Event.{answers}
+use Rattle.machine.specs.Run.{RunOutcome, run}
 use Rattle.machine.specs.declared.Step.{Step}
 use Rattle.machine.specs.declared.Answer.{Answer}
 use Rattle.hex.specs.Hex.{bytes}
@@ -14,7 +15,7 @@ use Rattle.frame.specs.declared.Framed.{Framed}
 use Rattle.frame.specs.declared.Framed.the-variants.{Frame, NotAFrame}
 use Rattle.frame.specs.Frame.{frameOf}
 use Rattle.logline.specs.LogLine.{logBody}
-use Rattle.log.specs.Log.{logOf, zeroWords, Told, toldOf, after, textTold, fedOf}
+use Rattle.log.specs.Log.{logOf, Told, toldOf, after, textTold, fedOf}
 
 -- ---- one log line for each line
 
@@ -77,10 +78,10 @@ toFrames (line ∷ more) [] = []
 toFrames (line ∷ more) (a ∷ answers) = toFrame (frameOf line) a ++ toFrames more answers
 
 -- `text-runs`: what a text leaves, and its steps' answers, are those of the machine's run over its steps: so every theorem of runs is one of texts
-pub record Runs (ls : List (List ℕ)) (t : Told) (r : Ran) : Type 0 where
+pub record Runs (ls : List (List ℕ)) (t : Told) (r : RunOutcome) : Type 0 where
   pub state : t .state ≡ r .state
   pub memory : t .memory ≡ r .memory
-  pub answers : toFrames ls (t .answers) ≡ map (λ (v : Event). v .answer) (r .events)
+  pub answers : toFrames ls (t .answers) ≡ answers (r .events)
 
 abbrev pub TextRuns : Type 0
 TextRuns = (st : State) (start : ℕ) (memory : List ℕ) (ls : List (List ℕ)) → Runs ls (toldOf st start memory ls) (run st start memory (stepsIn ls))
@@ -106,10 +107,10 @@ abbrev pub echo : List (List ℕ) → List ℕ
 echo [] = []
 echo (line ∷ more) = line ++ (lf ∷ []) ++ echo more
 
-abbrev pub firstOnly : List (List ℕ) → List ℕ
-firstOnly [] = []
-firstOnly (line ∷ more) = logOf (toldOf resetState 0 zeroWords (line ∷ []) .answers) ++ echo more
+abbrev pub echoing : List (List ℕ) → List ℕ
+echoing [] = []
+echoing (line ∷ more) = logOf (toldOf resetState 0 zeroWords (line ∷ []) .answers) ++ echo more
 
 -- `echoing-fails`: it fails the worked frames
 abbrev pub EchoingFails : Type 0
-EchoingFails = firstOnly (lines workedFrames) ≡ workedLog → ⊥
+EchoingFails = echoing (lines workedFrames) ≡ workedLog → ⊥

@@ -40,15 +40,15 @@ isWithin NoRoom out = true
 -- ---- a run
 
 -- state, memory and output after a run, and what it answers
-pub record Run : Type 0 where
+pub record TextRun : Type 0 where
   pub state : State
   pub memory : List ℕ
   pub out : List ℕ
   pub log : Logged
 
 -- too little room is an answer of its own: nothing is done, and no byte is written
-unfoldable pub runOf : State → ℕ → List ℕ → List ℕ → List ℕ → Run
-runOf st start memory text out =
+unfoldable pub textRun : State → ℕ → List ℕ → List ℕ → List ℕ → TextRun
+textRun st start memory text out =
     let t = textTold st start memory text in
     cond (isShort (length (lines text)) out)
     (record { state = st; memory = memory; out = out; log = NoRoom })
@@ -56,7 +56,7 @@ runOf st start memory text out =
 
 -- what `run` promises; without room the controller comes back to the letter
 pub record RunPromised (c : Controller) (start : ℕ) (memory text out : List ℕ) (r : Ran) (memory′ out′ : List ℕ) : Type 0 where
-  pub ran : record { state = stateOf (r .controller); memory = memory′; out = out′; log = r .log } ≡ runOf (stateOf c) start memory text out
+  pub ran : record { state = stateOf (r .controller); memory = memory′; out = out′; log = r .log } ≡ textRun (stateOf c) start memory text out
   pub refused : isShort (length (lines text)) out ≡ true → r .controller ≡ c
 
 -- ---- a piece

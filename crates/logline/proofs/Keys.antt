@@ -57,13 +57,13 @@ module _ (xs ys zs ws : List ℕ) (n : length xs ≡ length zs) (e : (xs ++ ys) 
 one : (n x y : ℕ) → x < 16 ^ n → y < 16 ^ n → digits n x ≡ digits n y → x ≡ y
 one n x y h k e = sym (number-digits n x h) ∙ ap number e ∙ number-digits n y k
 
-flag : (s t : Bool) → digits 1 (cond s 1 0) ≡ digits 1 (cond t 1 0) → s ≡ t
-flag true true e = refl
-flag true false e = absurd (let z = one 1 1 0 (lit< tt) (lit< tt) e in omega arith)
-flag false true e = absurd (let z = one 1 0 1 (lit< tt) (lit< tt) e in omega arith)
-flag false false e = refl
+line-key : (s t : Bool) → digits 1 (cond s 1 0) ≡ digits 1 (cond t 1 0) → s ≡ t
+line-key true true e = refl
+line-key true false e = absurd (let z = one 1 1 0 (lit< tt) (lit< tt) e in omega arith)
+line-key false true e = absurd (let z = one 1 0 1 (lit< tt) (lit< tt) e in omega arith)
+line-key false false e = refl
 
-pub length-numbers : (a : Answer) → length (numbers a) ≡ 20
+length-numbers : (a : Answer) → length (numbers a) ≡ 20
 unfolding numbers
 length-numbers a = simp (length-append, length-digits)
 
@@ -98,5 +98,5 @@ numbers-are-key a b f g e =
     let address = one 8 (a .address) (b .address) (f .address) (g .address) (tails c (digits 8 (a .address)) c′ (digits 8 (b .address)) c-long d-same) in
     let value = one 8 (a .value) (b .value) (f .value) (g .value) (tails d (digits 8 (a .value)) d′ (digits 8 (b .value)) d-long v-same) in
     let enables = one 1 (a .enables) (b .enables) (f .enables) (g .enables) (tails v (digits 1 (a .enables)) v′ (digits 1 (b .enables)) v-long n-same) in
-    let line = flag (a .line) (b .line) (tails n l n′ l′ n-long all) in
+    let line = line-key (a .line) (b .line) (tails n l n′ l′ n-long all) in
     λ i. record { code = code i; address = address i; value = value i; enables = enables i; line = line i }

@@ -12,7 +12,7 @@ use Rattle.logline.specs.Wrote.{Wrote}
 use Rattle.logline.specs.Promises.{WroteUnique}
 
 -- `bs` are stored where `xs` end
-pub sets-append : (l : List ℕ) (i : ℕ) (xs bs : List ℕ) → sets (sets l i xs) (i + length xs) bs ≡ sets l i (xs ++ bs)
+sets-append : (l : List ℕ) (i : ℕ) (xs bs : List ℕ) → sets (sets l i xs) (i + length xs) bs ≡ sets l i (xs ++ bs)
 sets-append l i [] bs = rw add-zero
 sets-append l i (a ∷ xs) bs = rw (add-suc, ← suc-add) (sets-append (set l i a) (suc i) xs bs)
 

@@ -3,9 +3,10 @@ use Prim.Native.Nat.{ℕ}
 use mathlib.Core.Path.{_≡_}
 use mathlib.Core.Bool.{true, false}
 use mathlib.Core.List.{List, [], _∷_, _++_, map}
-use lib.ListN.{getD, set, replicate}
+use lib.ListN.{getD, set}
 use Rattle.machine.specs.State.{State, resetState}
-use Rattle.machine.specs.Event.{Event}
+use Rattle.machine.specs.Window.{zeroWords}
+use Rattle.machine.specs.Event.{answers}
 use Rattle.machine.specs.Run.{Run, run}
 use Rattle.machine.specs.declared.Step.{Step}
 use Rattle.machine.specs.declared.Answer.{Answer}
@@ -30,11 +31,11 @@ expected e = record { answers = e .answers; words = e .words }
 abbrev pub got : Run → Example → Seen
 got model e =
     let r = model (e .state) (e .start) (e .memory) (e .steps) in
-    record { answers = map (λ (v : Event). v .answer) (r .events); words = map (λ k. getD (r .memory) k 0) (e .places) }
+    record { answers = answers (r .events); words = map (λ k. getD (r .memory) k 0) (e .places) }
 
 -- a run shows what every example of a table expects
-abbrev pub Meets : Run → List Example → Type 0
-Meets model table = map (got model) table ≡ map expected table
+abbrev pub MeetsTable : Run → List Example → Type 0
+MeetsTable model table = map (got model) table ≡ map expected table
 
 -- ---- steps and answers by name
 
@@ -83,12 +84,9 @@ high a = record { code = a .code; address = a .address; value = a .value; enable
 
 -- ---- the table
 
-abbrev pub zeros : List ℕ
-zeros = replicate 4096 0
-
 abbrev pub example : List Step → List Answer → Example
 example steps answers =
-    record { state = resetState; start = 0; memory = zeros; steps = steps; answers = answers; places = []; words = [] }
+    record { state = resetState; start = 0; memory = zeroWords; steps = steps; answers = answers; places = []; words = [] }
 
 -- 7: address 100, count 5, write cycles on, two words; two cycles; the count, the address and INTCSR are read
 abbrev pub sevenSteps : List Step
@@ -102,7 +100,7 @@ sevenAnswers =
     ∷ moves 0x100 0x11223344 0xF ∷ moves 0x104 0x55667788 0x1 ∷ says 0 ∷ says 0x108 ∷ says 0x40000 ∷ []
 
 abbrev pub sevenMemory : List ℕ
-sevenMemory = set zeros 0x41 0xAAAAAAAA
+sevenMemory = set zeroWords 0x41 0xAAAAAAAA
 
 -- example 7, and what follows it
 abbrev pub afterSeven : List Step → List Answer → Example
@@ -161,4 +159,4 @@ marked =
 
 -- `marked-hold`: the machine meets them all
 abbrev pub MarkedHold : Type 0
-MarkedHold = Meets run marked
+MarkedHold = MeetsTable run marked

@@ -3,8 +3,9 @@ use Prim.Native.Nat.{ℕ}
 use mathlib.Core.List.{List, [], _∷_, _++_, map}
 use lib.ListN.{set, replicate}
 use Rattle.machine.specs.State.{State, Lane, resetState, resetLane}
+use Rattle.machine.specs.Window.{zeroWords}
 use Rattle.machine.specs.Run.{run}
-use Rattle.machine.specs.Examples.{Example, Meets, stepBy, pciRead, pciWrite, addonRead, addonWrite, writeCycle, readCycle, says, ok, moves, refuses, absent, high, zeros, example}
+use Rattle.machine.specs.Examples.{Example, MeetsTable, stepBy, pciRead, pciWrite, addonRead, addonWrite, writeCycle, readCycle, says, ok, moves, refuses, absent, high, example}
 use Rattle.machine.specs.declared.Step.{Step}
 use Rattle.machine.specs.declared.Answer.{Answer}
 
@@ -14,15 +15,15 @@ case state start memory steps answers =
     record { state = state; start = start; memory = memory; steps = steps; answers = answers; places = []; words = [] }
 
 -- a lane, and a state with an abort standing: its interrupt line is high
-abbrev pub laneOf : List ℕ → ℕ → ℕ → Lane
-laneOf words address count = record { words = words; address = address; count = count }
+abbrev pub laneBy : List ℕ → ℕ → ℕ → Lane
+laneBy words address count = record { words = words; address = address; count = count }
 
-abbrev pub stateOf : Lane → Lane → ℕ → ℕ → State
-stateOf fromPci fromAddon intcsr mcsr =
+abbrev pub stateBy : Lane → Lane → ℕ → ℕ → State
+stateBy fromPci fromAddon intcsr mcsr =
     record { mail = replicate 8 0; marks = 0; fromPci = fromPci; fromAddon = fromAddon; intcsr = intcsr; mcsr = mcsr }
 
 abbrev pub abortStanding : State
-abortStanding = stateOf resetLane resetLane 0x100000 0
+abortStanding = stateBy resetLane resetLane 0x100000 0
 
 -- ---- codes 1 and 2: of a read, a cycle, a chip reset and an unknown kind; the line is zero for 1, the state's for 2
 
@@ -34,27 +35,27 @@ sameFour a = a ∷ a ∷ a ∷ a ∷ []
 
 abbrev pub outOfForm : List State
 outOfForm =
-    stateOf (laneOf (replicate 9 0) 0 0) resetLane 0x100000 0 ∷ stateOf resetLane (laneOf (replicate 9 0) 0 0) 0x100000 0
-    ∷ stateOf (laneOf [] 2 0) resetLane 0x100000 0 ∷ stateOf resetLane (laneOf [] 0x101 0) 0x100000 0
-    ∷ stateOf (laneOf [] 0 0x04000000) resetLane 0x100000 0 ∷ stateOf resetLane (laneOf [] 0 0xFFFFFFFF) 0x100000 0
-    ∷ stateOf resetLane resetLane 0x100020 0 ∷ stateOf resetLane resetLane 0x102000 0 ∷ stateOf resetLane resetLane 0x900000 0
-    ∷ stateOf resetLane resetLane 0x100000 0x800 ∷ stateOf resetLane resetLane 0x100000 0x80 ∷ stateOf resetLane resetLane 0x100000 0x08000000 ∷ []
+    stateBy (laneBy (replicate 9 0) 0 0) resetLane 0x100000 0 ∷ stateBy resetLane (laneBy (replicate 9 0) 0 0) 0x100000 0
+    ∷ stateBy (laneBy [] 2 0) resetLane 0x100000 0 ∷ stateBy resetLane (laneBy [] 0x101 0) 0x100000 0
+    ∷ stateBy (laneBy [] 0 0x04000000) resetLane 0x100000 0 ∷ stateBy resetLane (laneBy [] 0 0xFFFFFFFF) 0x100000 0
+    ∷ stateBy resetLane resetLane 0x100020 0 ∷ stateBy resetLane resetLane 0x102000 0 ∷ stateBy resetLane resetLane 0x900000 0
+    ∷ stateBy resetLane resetLane 0x100000 0x800 ∷ stateBy resetLane resetLane 0x100000 0x80 ∷ stateBy resetLane resetLane 0x100000 0x08000000 ∷ []
 
 abbrev pub formCases : List Example
-formCases = map (λ st. case st 0 zeros anyKinds (sameFour (refuses 1))) outOfForm
+formCases = map (λ st. case st 0 zeroWords anyKinds (sameFour (refuses 1))) outOfForm
 
 -- as full as form allows, so a chip reset is done; the window's faults; the largest window and the empty one
 abbrev pub windowCases : List Example
 windowCases =
-    case (stateOf (laneOf (replicate 8 0) 0xFFFFFFFC 0x03FFFFFF) (laneOf (replicate 8 0) 4 1) 0x3FDF1F 0xF700) 0 zeros (stepBy 6 0xFF 99 5 ∷ []) (ok ∷ [])
-    ∷ case abortStanding 1 zeros anyKinds (sameFour (high (refuses 2)))
-    ∷ case abortStanding 2 zeros anyKinds (sameFour (high (refuses 2)))
+    case (stateBy (laneBy (replicate 8 0) 0xFFFFFFFC 0x03FFFFFF) (laneBy (replicate 8 0) 4 1) 0x3FDF1F 0xF700) 0 zeroWords (stepBy 6 0xFF 99 5 ∷ []) (ok ∷ [])
+    ∷ case abortStanding 1 zeroWords anyKinds (sameFour (high (refuses 2)))
+    ∷ case abortStanding 2 zeroWords anyKinds (sameFour (high (refuses 2)))
     ∷ case abortStanding 0 (replicate 16385 0) anyKinds (sameFour (high (refuses 2)))
     ∷ case resetState 0xFFFFFFFC (replicate 16384 0) (stepBy 6 0 0 0 ∷ []) (ok ∷ [])
-    ∷ case (stateOf (laneOf [] 0 4) (laneOf (7 ∷ []) 0 4) 0 0x4400) 0 [] (writeCycle ∷ stepBy 6 0 0 0 ∷ []) (absent 0 ∷ ok ∷ [])
+    ∷ case (stateBy (laneBy [] 0 4) (laneBy (7 ∷ []) 0 4) 0 0x4400) 0 [] (writeCycle ∷ stepBy 6 0 0 0 ∷ []) (absent 0 ∷ ok ∷ [])
     -- a window that wraps: four words from FFFFFFF8
     ∷ record {
-      state = stateOf resetLane (laneOf (1 ∷ 2 ∷ 3 ∷ []) 0xFFFFFFFC 12) 0 0x400;
+      state = stateBy resetLane (laneBy (1 ∷ 2 ∷ 3 ∷ []) 0xFFFFFFFC 12) 0 0x400;
       start = 0xFFFFFFF8;
       memory = replicate 4 9;
       steps = writeCycle ∷ writeCycle ∷ writeCycle ∷ pciRead 0x24 ∷ [];
@@ -63,14 +64,14 @@ windowCases =
       words = 9 ∷ 1 ∷ 2 ∷ 3 ∷ [];
     }
     -- a read cycle over a window that begins at 100: done, no memory there, abort stands; nothing more is let in
-    ∷ case (stateOf (laneOf [] 0x100 8) resetLane 0 0x4000) 0x100 (7 ∷ [])
+    ∷ case (stateBy (laneBy [] 0x100 8) resetLane 0 0x4000) 0x100 (7 ∷ [])
     (readCycle ∷ readCycle ∷ readCycle ∷ addonRead 0x20 ∷ addonRead 0x20 ∷ pciRead 0x2C ∷ pciRead 0x30 ∷ [])
     (moves 0x100 7 0xF ∷ absent 0x104 ∷ high (refuses 11) ∷ high (says 7) ∷ high (refuses 8) ∷ high (says 0x104) ∷ high (says 4) ∷ [])
     -- the read address wraps too
-    ∷ case (stateOf (laneOf [] 0xFFFFFFFC 8) resetLane 0 0x4000) 0xFFFFFFFC (1 ∷ 2 ∷ []) (readCycle ∷ readCycle ∷ pciRead 0x2C ∷ [])
+    ∷ case (stateBy (laneBy [] 0xFFFFFFFC 8) resetLane 0 0x4000) 0xFFFFFFFC (1 ∷ 2 ∷ []) (readCycle ∷ readCycle ∷ pciRead 0x2C ∷ [])
     (moves 0xFFFFFFFC 1 0xF ∷ moves 0 2 0xF ∷ says 4 ∷ [])
     -- below the start there is no memory
-    ∷ case (stateOf resetLane (laneOf (1 ∷ []) 0xFC 4) 0 0x400) 0x100 zeros (writeCycle ∷ []) (absent 0xFC ∷ [])
+    ∷ case (stateBy resetLane (laneBy (1 ∷ []) 0xFC 4) 0 0x400) 0x100 zeroWords (writeCycle ∷ []) (absent 0xFC ∷ [])
     ∷ []
 
 -- ---- codes 3 to 8, lowest first
@@ -131,7 +132,7 @@ cycleCases =
     ∷ pciRead 0x20 ∷ [])
     (ok ∷ ok ∷ ok ∷ ok ∷ says 0xC6 ∷ refuses 8 ∷ ok ∷ refuses 8 ∷ [])
     -- read cycles with count 6: the second lets in two bytes; the count's zero sets 19, whose line 15 enables
-    ∷ case resetState 0 (set (set zeros 0xFFE 0x11223344) 0xFFF 0x55667788)
+    ∷ case resetState 0 (set (set zeroWords 0xFFE 0x11223344) 0xFFF 0x55667788)
     (pciWrite 0x2C 0x3FF8 ∷ pciWrite 0x30 6 ∷ pciWrite 0x3C 0x4000 ∷ readCycle ∷ readCycle ∷ readCycle ∷ pciRead 0x38 ∷ pciRead 0x2C ∷ pciRead 0x30
     ∷ addonRead 0x20 ∷ addonRead 0x20 ∷ pciWrite 0x38 0x8000 ∷ pciRead 0x38 ∷ [])
     (ok ∷ ok ∷ ok ∷ moves 0x3FF8 0x11223344 0xF ∷ moves 0x3FFC 0x7788 0x3 ∷ refuses 10 ∷ says 0x80000 ∷ says 0x4000 ∷ says 0
@@ -148,10 +149,10 @@ cycleCases =
     -- MCSR 15, 12 and 8 enable nothing
     ∷ example (pciWrite 0x3C 0x9100 ∷ pciWrite 0x28 4 ∷ pciWrite 0x30 4 ∷ writeCycle ∷ readCycle ∷ []) (ok ∷ ok ∷ ok ∷ refuses 9 ∷ refuses 9 ∷ [])
     -- and prevent nothing
-    ∷ case (stateOf (laneOf [] 0 4) (laneOf (7 ∷ []) 4 4) 0 0xD500) 0 (5 ∷ 6 ∷ []) (writeCycle ∷ readCycle ∷ []) (moves 4 7 0xF ∷ moves 0 5 0xF ∷ [])
+    ∷ case (stateBy (laneBy [] 0 4) (laneBy (7 ∷ []) 4 4) 0 0xD500) 0 (5 ∷ 6 ∷ []) (writeCycle ∷ readCycle ∷ []) (moves 4 7 0xF ∷ moves 0 5 0xF ∷ [])
     -- write cycles with counts 3 and 2
     ∷ record {
-      state = stateOf resetLane (laneOf (0x11223344 ∷ 0x55667788 ∷ []) 0 3) 0 0x400;
+      state = stateBy resetLane (laneBy (0x11223344 ∷ 0x55667788 ∷ []) 0 3) 0 0x400;
       start = 0;
       memory = 0xAAAAAAAA ∷ 0xBBBBBBBB ∷ [];
       steps = writeCycle ∷ pciWrite 0x28 2 ∷ writeCycle ∷ [];
@@ -173,7 +174,7 @@ cycleCases =
     (ok ∷ ok ∷ says 0xF7E6 ∷ says 0xE6 ∷ ok ∷ says 0xE6 ∷ ok ∷ says 0x1F00 ∷ [])
     -- a chip reset leaves host memory and zeroes the rest
     ∷ record {
-      state = stateOf (laneOf (1 ∷ []) 4 1) (laneOf (2 ∷ []) 8 2) 0x10DF1F 0xF700;
+      state = stateBy (laneBy (1 ∷ []) 4 1) (laneBy (2 ∷ []) 8 2) 0x10DF1F 0xF700;
       start = 0;
       memory = 5 ∷ 6 ∷ [];
       steps = pciWrite 0x00 9 ∷ stepBy 6 0 0 0 ∷ pciRead 0x00 ∷ pciRead 0x34 ∷ pciRead 0x38 ∷ pciRead 0x3C ∷ pciRead 0x24 ∷ pciRead 0x2C ∷ [];
@@ -197,15 +198,15 @@ eventCases =
     (pciWrite 0x38 0x1E00 ∷ stepBy 3 0x1C 11 0 ∷ addonWrite 0x18 0 ∷ pciRead 0x1C ∷ stepBy 3 0x1C 4 0 ∷ pciRead 0x38 ∷ pciWrite 0x38 0x20000 ∷ addonWrite 0x1C 0 ∷ [])
     (ok ∷ ok ∷ ok ∷ ok ∷ high ok ∷ high (says 0x821E00) ∷ ok ∷ ok ∷ [])
     -- a flag without its enable is no line: 16 with 4, 17 with 12, 18 with 14, 19 with 15; 20 and 21 by themselves
-    ∷ case (stateOf resetLane resetLane 0xE0F1F 0) 0 [] (pciRead 0x34 ∷ []) (says 0 ∷ [])
-    ∷ case (stateOf resetLane resetLane 0xD1F0F 0) 0 [] (pciRead 0x34 ∷ []) (says 0 ∷ [])
-    ∷ case (stateOf resetLane resetLane 0xB4F0F 0) 0 [] (pciRead 0x34 ∷ []) (says 0 ∷ [])
-    ∷ case (stateOf resetLane resetLane 0x78F0F 0) 0 [] (pciRead 0x34 ∷ []) (says 0 ∷ [])
-    ∷ case (stateOf resetLane resetLane 0x10010 0) 0 [] (pciRead 0x34 ∷ []) (high (says 0) ∷ [])
-    ∷ case (stateOf resetLane resetLane 0x21000 0) 0 [] (pciRead 0x34 ∷ []) (high (says 0) ∷ [])
-    ∷ case (stateOf resetLane resetLane 0x44000 0) 0 [] (pciRead 0x34 ∷ []) (high (says 0) ∷ [])
-    ∷ case (stateOf resetLane resetLane 0x88000 0) 0 [] (pciRead 0x34 ∷ []) (high (says 0) ∷ [])
-    ∷ case (stateOf resetLane resetLane 0x200000 0x400) 0 [] (pciWrite 0x28 4 ∷ writeCycle ∷ pciWrite 0x38 0 ∷ pciWrite 0x38 0x200000 ∷ []) (high ok ∷ high (refuses 11) ∷ high ok ∷ ok ∷ [])
+    ∷ case (stateBy resetLane resetLane 0xE0F1F 0) 0 [] (pciRead 0x34 ∷ []) (says 0 ∷ [])
+    ∷ case (stateBy resetLane resetLane 0xD1F0F 0) 0 [] (pciRead 0x34 ∷ []) (says 0 ∷ [])
+    ∷ case (stateBy resetLane resetLane 0xB4F0F 0) 0 [] (pciRead 0x34 ∷ []) (says 0 ∷ [])
+    ∷ case (stateBy resetLane resetLane 0x78F0F 0) 0 [] (pciRead 0x34 ∷ []) (says 0 ∷ [])
+    ∷ case (stateBy resetLane resetLane 0x10010 0) 0 [] (pciRead 0x34 ∷ []) (high (says 0) ∷ [])
+    ∷ case (stateBy resetLane resetLane 0x21000 0) 0 [] (pciRead 0x34 ∷ []) (high (says 0) ∷ [])
+    ∷ case (stateBy resetLane resetLane 0x44000 0) 0 [] (pciRead 0x34 ∷ []) (high (says 0) ∷ [])
+    ∷ case (stateBy resetLane resetLane 0x88000 0) 0 [] (pciRead 0x34 ∷ []) (high (says 0) ∷ [])
+    ∷ case (stateBy resetLane resetLane 0x200000 0x400) 0 [] (pciWrite 0x28 4 ∷ writeCycle ∷ pciWrite 0x38 0 ∷ pciWrite 0x38 0x200000 ∷ []) (high ok ∷ high (refuses 11) ∷ high ok ∷ ok ∷ [])
     ∷ []
 
 abbrev pub neighbours : List Example
@@ -213,4 +214,4 @@ neighbours = formCases ++ windowCases ++ accessCases ++ mailCases ++ cycleCases 
 
 -- `neighbours-hold`: the machine meets these too
 abbrev pub NeighboursHold : Type 0
-NeighboursHold = Meets run neighbours
+NeighboursHold = MeetsTable run neighbours

@@ -7,14 +7,14 @@ use Rattle.machine.specs.Event.{Event}
 use Rattle.machine.specs.declared.Step.{Step}
 
 -- what a run leaves, and the steps with their answers
-pub record Ran : Type 0 where
+pub record RunOutcome : Type 0 where
   pub state : State
   pub memory : List ℕ
   pub events : List Event
 
 -- from a state, a start, a memory and steps: what a run is
 abbrev pub Run : Type 0
-Run = State → ℕ → List ℕ → List Step → Ran
+Run = State → ℕ → List ℕ → List Step → RunOutcome
 
 -- a rule for one step
 abbrev pub Rule : Type 0

@@ -15,7 +15,7 @@ cond-same : {A : Type 0} (b : Bool) (s t : A) → s ≡ t → cond b s t ≡ t
 cond-same true s t e = e
 cond-same false s t e = refl
 
-pub cond-or : {A : Type 0} (b c : Bool) (s t : A) → cond b s (cond c s t) ≡ cond (b || c) s t
+cond-or : {A : Type 0} (b c : Bool) (s t : A) → cond b s (cond c s t) ≡ cond (b || c) s t
 cond-or true c s t = refl
 cond-or false c s t = refl
 

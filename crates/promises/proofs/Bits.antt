@@ -11,24 +11,21 @@ use Rattle.machine.specs.Words.{bit, flag, raised, cleared, only}
 
 -- ---- and, or
 
--- two digits
+-- of two binary digits
+two-digits : (P : ℕ → ℕ → Type 0) → P 0 0 → P 0 1 → P 1 0 → P 1 1 → (p q : ℕ) → p < 2 → q < 2 → P p q
+two-digits P a b c d zero zero h l = a
+two-digits P a b c d zero (suc zero) h l = b
+two-digits P a b c d (suc zero) zero h l = c
+two-digits P a b c d (suc zero) (suc zero) h l = d
+two-digits P a b c d zero (suc (suc q)) h l = absurd (omega arith)
+two-digits P a b c d (suc zero) (suc (suc q)) h l = absurd (omega arith)
+two-digits P a b c d (suc (suc p)) q h l = absurd (omega arith)
+
 max-or : (p q : ℕ) → p < 2 → q < 2 → eqb (max p q) 1 ≡ (eqb p 1 || eqb q 1)
-max-or zero zero h l = refl
-max-or zero (suc zero) h l = refl
-max-or zero (suc (suc q)) h l = absurd (omega arith)
-max-or (suc zero) zero h l = refl
-max-or (suc zero) (suc zero) h l = refl
-max-or (suc zero) (suc (suc q)) h l = absurd (omega arith)
-max-or (suc (suc p)) q h l = absurd (omega arith)
+max-or = two-digits (λ p q. eqb (max p q) 1 ≡ (eqb p 1 || eqb q 1)) refl refl refl refl
 
 min-and : (p q : ℕ) → p < 2 → q < 2 → eqb (min p q) 1 ≡ (eqb p 1 && eqb q 1)
-min-and zero zero h l = refl
-min-and zero (suc zero) h l = refl
-min-and zero (suc (suc q)) h l = absurd (omega arith)
-min-and (suc zero) zero h l = refl
-min-and (suc zero) (suc zero) h l = refl
-min-and (suc zero) (suc (suc q)) h l = absurd (omega arith)
-min-and (suc (suc p)) q h l = absurd (omega arith)
+min-and = two-digits (λ p q. eqb (min p q) 1 ≡ (eqb p 1 && eqb q 1)) refl refl refl refl
 
 or-low : (x y : ℕ) → bitOr x y % 2 ≡ max (x % 2) (y % 2)
 or-low x y = omega (arith, or-step x y)
@@ -158,7 +155,7 @@ bits-below (suc n) a b ha hb h =
     let high = bits-below n (a / 2) (b / 2) (omega arith) (omega arith) (λ k. sym (bit-half a k) ∙ h (suc k) ∙ bit-half b k) in
     omega arith
 
-pub by-bits : (a b : ℕ) → ((k : ℕ) → bit a k ≡ bit b k) → a ≡ b
+by-bits : (a b : ℕ) → ((k : ℕ) → bit a k ≡ bit b k) → a ≡ b
 by-bits a b h = bits-below (a + b) a b (omega (arith, lt-power (a + b))) (omega (arith, lt-power (a + b))) h
 
 -- ---- no bit other than those of y
@@ -175,7 +172,7 @@ pub only-and : (y a b : ℕ) → Only y b → Only y (bitAnd a b)
 only-and y a b q =
     by-bits (bitAnd (bitAnd a b) y) (bitAnd a (bitAnd b y)) (λ k. simp bit-and (and-assoc (bit a k) (bit b k) (bit y k))) ∙ ap (λ (c : ℕ). bitAnd a c) q
 
-pub and-swap : (a b : ℕ) → bitAnd a b ≡ bitAnd b a
+and-swap : (a b : ℕ) → bitAnd a b ≡ bitAnd b a
 and-swap a b = by-bits (bitAnd a b) (bitAnd b a) (λ k. simp bit-and (and-comm (bit a k) (bit b k)))
 
 pub only-and-left : (y a b : ℕ) → Only y a → Only y (bitAnd a b)

@@ -13,7 +13,7 @@ use Rattle.machine.specs.Cycles.{runsOut}
 use Rattle.machine.specs.Intcsr.{intcsrKept, intcsrEvents, intcsrWritten, outgoingEvent, incomingEvent, chosenOutgoing, chosenIncoming, intcsrAfter}
 use Rattle.machine.specs.Step.{stepOf, respond, answered, replyOf, stateAfter, doneState}
 use Rattle.promises.proofs.Numbers.{named}
-use Rattle.promises.specs.Readings.{EventRule, acknowledges, sets}
+use Rattle.promises.specs.Readings.{EventRule, acknowledges, setsBit}
 use Rattle.promises.proofs.Bits.{bit-raised}
 use Rattle.promises.proofs.MailAccount.{at-byte}
 use Rattle.promises.proofs.Readings.{kept-bits, intcsr-written-bits}
@@ -64,7 +64,7 @@ module _ (k : ℕ) (low : 16 ≤ k) (high : k ≤ 21) where
       by false e = let l = leb-false count 4 e in ne-eqb (count - min 4 count) 0 (λ q. omega arith)
 
   by-kind : (kind : Kind) (st : State) (o n v : ℕ)
-      → (let x : Access = record { kind = kind; offset = o; enables = n; value = v } in bit (intcsrAfter kind st x) k ≡ (bit (st .intcsr) k && not (acknowledges k x) || sets k st x))
+      → (let x : Access = record { kind = kind; offset = o; enables = n; value = v } in bit (intcsrAfter kind st x) k ≡ (bit (st .intcsr) k && not (acknowledges k x) || setsBit k st x))
   unfolding intcsrAfter
   by-kind (reading host) st o n v = quiet (bit (st .intcsr) k)
   by-kind (reading card) st o n v =

@@ -96,37 +96,37 @@ followed-is ws [] = sym (append-nil ws)
 followed-is ws (n ∷ ns) = refl
 
 -- the account over one done step: `out` is handed out, `new` let in
-kept : (cut : Bool) (ins outs ws out new : List ℕ) → ins ≡ outs ++ ws → InFront out ws
+account-done : (cut : Bool) (ins outs ws out new : List ℕ) → ins ≡ outs ++ ws → InFront out ws
     → cond cut [] (ins ++ new) ≡ cond cut [] (outs ++ out) ++ cond cut [] (followed (drop (length out) ws) new)
-kept true ins outs ws out new e f = refl
-kept false ins outs ws out new e f =
+account-done true ins outs ws out new e f = refl
+account-done false ins outs ws out new e f =
     let rest = drop (length out) ws in
     ap (λ (l : List ℕ). l ++ new) (e ∙ ap (λ (l : List ℕ). outs ++ l) f ∙ sym (append-assoc outs out rest))
     ∙ append-assoc (outs ++ out) rest new
     ∙ ap (λ (l : List ℕ). outs ++ out ++ l) (sym (followed-is rest new))
 
 -- the account over one step, done or not
-one-step : (side : Side) (st : State) (start : ℕ) (memory : List ℕ) (x : Access) (code : ℕ) (ins outs : List ℕ)
+account-step : (side : Side) (st : State) (start : ℕ) (memory : List ℕ) (x : Access) (code : ℕ) (ins outs : List ℕ)
     → (code ≡ 0 → codeOf st start (length memory) x ≡ 0) → ins ≡ outs ++ held side st
     → (let word = replyOf st start memory x code .value in let cut = isReset (x .kind) || clearsFifo side x in
     cond (eqb code 0) (cond cut [] (ins ++ letIn side x word)) ins
     ≡ cond (eqb code 0) (cond cut [] (outs ++ handedOut side x word)) outs ++ held side (stateAfter st x code word))
 unfolding replyOf
-one-step side st start memory x zero ins outs c e =
+account-step side st start memory x zero ins outs c e =
     let word = doneReply (x .kind) st start memory x .value in
     rw (part-done (held side) st x word (clearsFifo side x) [] _ (held-reset side) (held-done side st x word))
-    (kept (isReset (x .kind) || clearsFifo side x) ins outs (held side st) (handedOut side x word) (letIn side x word) e (in-front side st start memory x (c refl)))
-one-step side st start memory x (suc n) ins outs c e =
+    (account-done (isReset (x .kind) || clearsFifo side x) ins outs (held side st) (handedOut side x word) (letIn side x word) e (in-front side st start memory x (c refl)))
+account-step side st start memory x (suc n) ins outs c e =
     rw (part-refused (held side) st x n (replyOf st start memory x (suc n) .value) (held-aborted side st), eqb·suc-zero n) e
 
 -- ---- a run
 
 -- the books of a FIFO are right
-pub record Books (side : Side) (st : State) (t : Tally) : Type 0 where
-  pub account : t .letIn ≡ t .handedOut ++ held side st
+record Books (side : Side) (st : State) (t : Tally) : Type 0 where
+  account : t .letIn ≡ t .handedOut ++ held side st
 
 -- for any code that is 0 only where the step is done
-pub books-respond : (side : Side) (st : State) (start : ℕ) (memory : List ℕ) (s : Step) (code : ℕ) (t : Tally)
+books-respond : (side : Side) (st : State) (start : ℕ) (memory : List ℕ) (s : Step) (code : ℕ) (t : Tally)
     → (code ≡ 0 → codeOf st start (length memory) (accessOf s) ≡ 0) → Books side st t
     → (let o = respond st start memory (accessOf s) code in Books side (o .state) (tallyAfter side t (record { step = s; answer = o .answer })))
 unfolding respond answered
@@ -136,7 +136,7 @@ books-respond side st start memory s code t z b =
     record {
       account =
           sym (λ i. cond (isDone e) (cond (clears-is e side i) [] (t .letIn ++ in-is e side i)) (t .letIn))
-          ∙ one-step side st start memory (accessOf s) code (t .letIn) (t .handedOut) z (b .account)
+          ∙ account-step side st start memory (accessOf s) code (t .letIn) (t .handedOut) z (b .account)
           ∙ (λ i. cond (isDone e) (cond (clears-is e side i) [] (t .handedOut ++ out-is e side i)) (t .handedOut) ++ held side (o .state));
     }
 

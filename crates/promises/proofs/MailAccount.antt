@@ -18,7 +18,7 @@ use Rattle.machine.specs.Code.{codeOf}
 use Rattle.machine.specs.Step.{replyOf, stateAfter, stepOf, respond, answered, doneState, abortedState}
 use Rattle.machine.specs.Event.{Event}
 use Rattle.machine.specs.Run.{run}
-use Rattle.promises.specs.Account.{Touch, write, read, clear, none, isDone, toByte, ownerWrites, otherReads, clearsByte, touch, later, latest, isWrite}
+use Rattle.promises.specs.Account.{Touch, write, read, clear, none, isDone, toByte, ownerWrites, otherReads, clearsByte, touch, later, latest, wasWrite}
 use Rattle.promises.specs.Theorems.{MailAccount}
 use Rattle.machine.specs.declared.Step.{Step}
 use Rattle.promises.proofs.Numbers.{named, reset-is, commands-is}
@@ -83,49 +83,49 @@ module _ (k : ℕ) (h : k < 32) (e : Event) where
 -- ---- one step
 
 -- what a byte's mark is after a touch
-abbrev pub after : Touch → Bool → Bool
-after write b = true
-after read b = false
-after clear b = false
-after none b = b
+abbrev touched : Touch → Bool → Bool
+touched write b = true
+touched read b = false
+touched clear b = false
+touched none b = b
 
-after-later : (s t : Touch) (b : Bool) → after (later s t) b ≡ after s (after t b)
-after-later write t b = refl
-after-later read t b = refl
-after-later clear t b = refl
-after-later none t b = refl
+touched-later : (s t : Touch) (b : Bool) → touched (later s t) b ≡ touched s (touched t b)
+touched-later write t b = refl
+touched-later read t b = refl
+touched-later clear t b = refl
+touched-later none t b = refl
 
-after-false : (t : Touch) → after t false ≡ isWrite t
-after-false write = refl
-after-false read = refl
-after-false clear = refl
-after-false none = refl
+touched-false : (t : Touch) → touched t false ≡ wasWrite t
+touched-false write = refl
+touched-false read = refl
+touched-false clear = refl
+touched-false none = refl
 
-after-touch : (c f t b : Bool) → cond c false (cond f true (cond t false b)) ≡ after (cond c clear (cond f write (cond t read none))) b
-after-touch true f t b = refl
-after-touch false true t b = refl
-after-touch false false true b = refl
-after-touch false false false b = refl
+touched-cond : (c f t b : Bool) → cond c false (cond f true (cond t false b)) ≡ touched (cond c clear (cond f write (cond t read none))) b
+touched-cond true f t b = refl
+touched-cond false true t b = refl
+touched-cond false false true b = refl
+touched-cond false false false b = refl
 
-abbrev pub touchOf : ℕ → Access → Touch
+abbrev touchOf : ℕ → Access → Touch
 touchOf k x = cond (isReset (x .kind) || clearsMarks x) clear (cond (fillsByte k x) write (cond (takesByte k x) read none))
 
 touch-is : (k : ℕ) → k < 32 → (e : Event) → cond (isDone e) (touchOf k (accessOf (e .step))) none ≡ touch k e
 touch-is k h e =
     λ i. cond (isDone e) (cond (clears-byte-is k h e i) clear (cond (fills-is k h e i) write (cond (takes-is k h e i) read none))) none
 
-pub one-step : (k : ℕ) → k < 32 → (st : State) (x : Access) (code word : ℕ)
-    → bit (stateAfter st x code word .marks) k ≡ after (cond (eqb code 0) (touchOf k x) none) (bit (st .marks) k)
+mark-step : (k : ℕ) → k < 32 → (st : State) (x : Access) (code word : ℕ)
+    → bit (stateAfter st x code word .marks) k ≡ touched (cond (eqb code 0) (touchOf k x) none) (bit (st .marks) k)
 unfolding doneState abortedState
-one-step k h st x zero word =
+mark-step k h st x zero word =
     part-done (λ (s : State). bit (s .marks) k) st x word (clearsMarks x) false _ (bit-zero k) (mark-after k h x (st .marks))
-    ∙ after-touch (isReset (x .kind) || clearsMarks x) (fillsByte k x) (takesByte k x) (bit (st .marks) k)
-one-step k h st x (suc c) word = rw (part-refused (λ (s : State). bit (s .marks) k) st x c word refl, eqb·suc-zero c)
+    ∙ touched-cond (isReset (x .kind) || clearsMarks x) (fillsByte k x) (takesByte k x) (bit (st .marks) k)
+mark-step k h st x (suc c) word = rw (part-refused (λ (s : State). bit (s .marks) k) st x c word refl, eqb·suc-zero c)
 
 -- ---- a run
 
 account-from : (k : ℕ) → k < 32 → (start : ℕ) (steps : List Step) (st : State) (memory : List ℕ)
-    → (let r = run st start memory steps in bit (r .state .marks) k ≡ after (latest k (r .events)) (bit (st .marks) k))
+    → (let r = run st start memory steps in bit (r .state .marks) k ≡ touched (latest k (r .events)) (bit (st .marks) k))
 unfolding stepOf respond answered
 account-from k h start [] st memory = refl
 account-from k h start (s ∷ ss) st memory =
@@ -135,10 +135,10 @@ account-from k h start (s ∷ ss) st memory =
     let e : Event = record { step = s; answer = o .answer } in
     let rest = latest k (run (o .state) start (o .memory) ss .events) in
     account-from k h start ss (o .state) (o .memory)
-    ∙ ap (after rest) (one-step k h st x code (replyOf st start memory x code .value) ∙ (λ i. after (touch-is k h e i) (bit (st .marks) k)))
-    ∙ sym (after-later rest (touch k e) (bit (st .marks) k))
+    ∙ ap (touched rest) (mark-step k h st x code (replyOf st start memory x code .value) ∙ (λ i. touched (touch-is k h e i) (bit (st .marks) k)))
+    ∙ sym (touched-later rest (touch k e) (bit (st .marks) k))
 
 pub mail-account : MailAccount
 mail-account k h start memory steps =
     let r = run resetState start memory steps in
-    account-from k h start steps resetState memory ∙ ap (after (latest k (r .events))) (bit-zero k) ∙ after-false (latest k (r .events))
+    account-from k h start steps resetState memory ∙ ap (touched (latest k (r .events))) (bit-zero k) ∙ touched-false (latest k (r .events))

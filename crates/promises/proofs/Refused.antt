@@ -12,7 +12,7 @@ use Rattle.machine.specs.Access.{Access, accessOf, kindOf}
 use Rattle.machine.specs.Intcsr.{lineOf, intcsrAborted}
 use Rattle.machine.specs.Code.{codeOf, tests, firstOf}
 use Rattle.machine.specs.Step.{notAFrame, stepOf, respond, stateAfter, memoryAfter, answered, replyOf, abortedReply, abortedState}
-use Rattle.promises.specs.Theorems.{Numbered, Refused, NotAFrame, Aborted, AbortOnly, testOf, Lowest, LowestCode, EveryCode}
+use Rattle.promises.specs.Theorems.{Numbered, Refused, NotAFrameAnswer, Aborted, AbortOnly, testOf, Lowest, LowestCode, EveryCode}
 use Rattle.promises.proofs.Tests.{and-left, and-right}
 use Rattle.promises.proofs.Bits.{bit-raised}
 
@@ -108,9 +108,9 @@ refused st start memory s e f =
     let code = codeOf st start (length memory) (accessOf s) in
     rw (e, f) (λ i. record { state = st; memory = memory; answer = record { code = code; address = 0; value = 0; enables = 0; line = line-cond (eqb code 1) (lineOf (st .intcsr)) i } })
 
-pub not-a-frame : NotAFrame
+pub not-a-frame-answer : NotAFrameAnswer
 unfolding notAFrame answered
-not-a-frame st = refl
+not-a-frame-answer st = refl
 
 -- ---- code 13
 

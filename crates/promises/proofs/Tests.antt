@@ -43,17 +43,17 @@ any-none (b ∷ bs) e (suc i) = any-none bs (or-right b (anyOf bs) e) i
 -- ---- the first test that applies
 
 -- no code is 0
-abbrev named : List (ℕ × Bool) → Bool
-named [] = true
-named (t ∷ ts) = not (eqb (t .0) 0) && named ts
+abbrev nonzero : List (ℕ × Bool) → Bool
+nonzero [] = true
+nonzero (t ∷ ts) = not (eqb (t .0) 0) && nonzero ts
 
 -- done: no test applies
-pub none-applies : (ts : List (ℕ × Bool)) → named ts ≡ true → firstOf ts ≡ 0 → (c : ℕ) → testOf c ts ≡ false
+pub none-applies : (ts : List (ℕ × Bool)) → nonzero ts ≡ true → firstOf ts ≡ 0 → (c : ℕ) → testOf c ts ≡ false
 none-applies [] p e c = refl
-none-applies (t ∷ ts) p e c = go (t .1) (t .0) p e (λ f. none-applies ts (and-right (not (eqb (t .0) 0)) (named ts) p) f c) (eqb (t .0) c)
+none-applies (t ∷ ts) p e c = go (t .1) (t .0) p e (λ f. none-applies ts (and-right (not (eqb (t .0) 0)) (nonzero ts) p) f c) (eqb (t .0) c)
   where
-    go : (b : Bool) (n : ℕ) → (not (eqb n 0) && named ts) ≡ true → cond b n (firstOf ts) ≡ 0 → (firstOf ts ≡ 0 → testOf c ts ≡ false) → (d : Bool)
+    go : (b : Bool) (n : ℕ) → (not (eqb n 0) && nonzero ts) ≡ true → cond b n (firstOf ts) ≡ 0 → (firstOf ts ≡ 0 → testOf c ts ≡ false) → (d : Bool)
         → cond d b (testOf c ts) ≡ false
-    go true n p e f d = absurd (true≢false (sym p ∙ (λ i. not (eq-eqb n 0 e i) && named ts)))
+    go true n p e f d = absurd (true≢false (sym p ∙ (λ i. not (eq-eqb n 0 e i) && nonzero ts)))
     go false n p e f true = refl
     go false n p e f false = f e

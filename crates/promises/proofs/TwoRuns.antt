@@ -11,9 +11,9 @@ use Rattle.machine.specs.Words.{bit}
 use Rattle.machine.specs.Sides.{Side, pci, addon}
 use Rattle.machine.specs.State.{State, resetState}
 use Rattle.machine.specs.Step.{stepOf}
-use Rattle.machine.specs.Event.{Event}
+use Rattle.machine.specs.Event.{Event, answers}
 use Rattle.machine.specs.Run.{run}
-use Rattle.promises.specs.Account.{isDone, isKind, command, clears, wordsIn, wordsOut, Tally, fresh, tallyAfter, talliedFrom, Alike, AllAlike, none, more, answers, NoClear, accepted, Agreed}
+use Rattle.promises.specs.Account.{isDone, isKind, command, clears, wordsIn, wordsOut, Tally, fresh, tallyAfter, talliedFrom, Alike, AllAlike, noSteps, oneMore, NoClear, accepted, Agreed}
 use Rattle.promises.specs.Theorems.{TwoRunsSince, TwoRuns}
 use Rattle.machine.specs.declared.Step.{Step}
 use Rattle.promises.proofs.FifoAccount.{fifo-account}
@@ -30,8 +30,8 @@ data Twins : List Event → List Event → Type 0 where
 
 twins : {ss ts : List Step} (st st′ : State) (start : ℕ) (m m′ : List ℕ) → AllAlike ss ts
     → answers (run st start m ss .events) ≡ answers (run st′ start m′ ts .events) → Twins (run st start m ss .events) (run st′ start m′ ts .events)
-twins st st′ start m m′ none e = nil
-twins st st′ start m m′ (more {s = s} {t = t} a al) e =
+twins st st′ start m m′ noSteps e = nil
+twins st st′ start m m′ (oneMore {s = s} {t = t} a al) e =
     let o = stepOf st start m s in
     let p = stepOf st′ start m′ t in
     cons (record { steps = a; same = head-eq-of-cons-eq e }) (twins (o .state) (p .state) start (o .memory) (p .memory) al (tail-eq-of-cons-eq e))
@@ -80,21 +80,21 @@ two-runs-since side start memory ss ts a e h =
 
 -- ---- with no clear and no reset: event by event
 
-abbrev joined : Side → List Event → List ℕ
-joined side [] = []
-joined side (e ∷ es) = accepted side e ++ joined side es
+abbrev allAccepted : Side → List Event → List ℕ
+allAccepted side [] = []
+allAccepted side (e ∷ es) = accepted side e ++ allAccepted side es
 
 uncut : (d c : Bool) (sofar ws : List ℕ) → (d && c) ≡ false → cond d (cond c [] (sofar ++ ws)) sofar ≡ sofar ++ cond d ws []
 uncut true true sofar ws e = absurd (true≢false e)
 uncut true false sofar ws e = refl
 uncut false c sofar ws e = sym (append-nil sofar)
 
-all-joined : (side : Side) (t : Tally) (es : List Event) → NoClear side es → talliedFrom side t es .letIn ≡ t .letIn ++ joined side es
-all-joined side t [] h = sym (append-nil (t .letIn))
-all-joined side t (e ∷ es) h =
-    all-joined side (tallyAfter side t e) es (h .1)
-    ∙ ap (λ (l : List ℕ). l ++ joined side es) (uncut (isDone e) (clears side e) (t .letIn) (wordsIn side e) (h .0))
-    ∙ append-assoc (t .letIn) (accepted side e) (joined side es)
+all-accepted : (side : Side) (t : Tally) (es : List Event) → NoClear side es → talliedFrom side t es .letIn ≡ t .letIn ++ allAccepted side es
+all-accepted side t [] h = sym (append-nil (t .letIn))
+all-accepted side t (e ∷ es) h =
+    all-accepted side (tallyAfter side t e) es (h .1)
+    ∙ ap (λ (l : List ℕ). l ++ allAccepted side es) (uncut (isDone e) (clears side e) (t .letIn) (wordsIn side e) (h .0))
+    ∙ append-assoc (t .letIn) (accepted side e) (allAccepted side es)
 
 no-clear-alike : (side : Side) {es fs : List Event} → Twins es fs → NoClear side es → NoClear side fs
 no-clear-alike side nil h = tt
@@ -130,15 +130,15 @@ split (x ∷ xs) [] ys vs n e = absurd (omega arith)
 split (x ∷ xs) (u ∷ us) ys vs n e =
     let r = split xs us ys vs (omega arith) (tail-eq-of-cons-eq e) in (ap₂ (λ (z : ℕ) (l : List ℕ). z ∷ l) (head-eq-of-cons-eq e) (r .0), r .1)
 
-agree : (side : Side) {es fs : List Event} → Twins es fs → joined side es ≡ joined side fs → Agreed side es fs
-agree side nil h = tt
-agree side (cons {e = e} {f = f} {es = es} {fs = fs} p ps) h =
-    let r = split (accepted side e) (accepted side f) (joined side es) (joined side fs) (accepted-length side e f p) h in (r .0, agree side ps (r .1))
+agreed : (side : Side) {es fs : List Event} → Twins es fs → allAccepted side es ≡ allAccepted side fs → Agreed side es fs
+agreed side nil h = tt
+agreed side (cons {e = e} {f = f} {es = es} {fs = fs} p ps) h =
+    let r = split (accepted side e) (accepted side f) (allAccepted side es) (allAccepted side fs) (accepted-length side e f p) h in (r .0, agreed side ps (r .1))
 
 pub two-runs : TwoRuns
 two-runs start memory ss ts a e h u side =
     let w = twins resetState resetState start memory memory a e in
-    agree side w
-    (sym (all-joined side fresh (run resetState start memory ss .events) (u side))
+    agreed side w
+    (sym (all-accepted side fresh (run resetState start memory ss .events) (u side))
     ∙ two-runs-since side start memory ss ts a e (h side)
-    ∙ all-joined side fresh (run resetState start memory ts .events) (no-clear-alike side w (u side)))
+    ∙ all-accepted side fresh (run resetState start memory ts .events) (no-clear-alike side w (u side)))

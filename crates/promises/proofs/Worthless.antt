@@ -10,7 +10,8 @@ use native.Mathlib.Omega.{arith}
 use lib.ListN.{getD}
 use Rattle.machine.specs.Sides.{pci, addon}
 use Rattle.machine.specs.State.{resetState}
-use Rattle.machine.specs.Examples.{Seen, ok, pciRead, pciWrite, addonRead, writeCycle, zeros}
+use Rattle.machine.specs.Window.{zeroWords}
+use Rattle.machine.specs.Examples.{Seen, ok, pciRead, pciWrite, addonRead, writeCycle}
 use Rattle.promises.specs.Worthless.{RefusingFails, ConstantFails, StillFails, FirstOnlyFails, ConstantBreaks, StillBreaks}
 use Rattle.machine.specs.declared.Answer.{Answer}
 
@@ -21,7 +22,7 @@ answerAt i j rows = getD (getD rows i (record { answers = []; words = [] }) .ans
 -- example 1 is done
 pub refusing-fails : RefusingFails
 refusing-fails rule h =
-    let e : suc (rule resetState 0 zeros (pciRead 0x3C) .answer .code) ≡ 0 = ap (λ (rows : List Seen). answerAt 0 0 rows .code) h in omega arith
+    let e : suc (rule resetState 0 zeroWords (pciRead 0x3C) .answer .code) ≡ 0 = ap (λ (rows : List Seen). answerAt 0 0 rows .code) h in omega arith
 
 -- examples 1 and 2 show different data
 pub constant-fails : ConstantFails
@@ -33,8 +34,8 @@ constant-fails answer rule h =
 -- in example 9 the same cycle answers 13, then 11
 pub still-fails : StillFails
 still-fails answer h =
-    let once : answer resetState 0 zeros writeCycle .code ≡ 13 = ap (λ (rows : List Seen). answerAt 11 4 rows .code) h in
-    let again : answer resetState 0 zeros writeCycle .code ≡ 11 = ap (λ (rows : List Seen). answerAt 11 5 rows .code) h in
+    let once : answer resetState 0 zeroWords writeCycle .code ≡ 13 = ap (λ (rows : List Seen). answerAt 11 4 rows .code) h in
+    let again : answer resetState 0 zeroWords writeCycle .code ≡ 11 = ap (λ (rows : List Seen). answerAt 11 5 rows .code) h in
     omega arith
 
 pub first-only-fails : FirstOnlyFails

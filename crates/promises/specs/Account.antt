@@ -3,13 +3,12 @@
 use Prim.Native.Nat.{ℕ, _*_, _/_, _%_}
 use mathlib.Core.Path.{_≡_}
 use mathlib.Core.Bool.{Bool, true, false, cond, _&&_, _||_}
-use mathlib.Core.List.{List, [], _∷_, _++_, map}
+use mathlib.Core.List.{List, [], _∷_, _++_}
 use lib.Dec.{eqb, ltb}
 use Rattle.machine.specs.Words.{bit}
 use Rattle.machine.specs.Sides.{Side, pci, addon}
 use Rattle.machine.specs.Event.{Event}
 use Rattle.machine.specs.declared.Step.{Step}
-use Rattle.machine.specs.declared.Answer.{Answer}
 
 abbrev pub isDone : Event → Bool
 isDone e = eqb (e .answer .code) 0
@@ -17,12 +16,12 @@ isDone e = eqb (e .answer .code) 0
 abbrev pub isKind : ℕ → Event → Bool
 isKind kind e = eqb (e .step .kind) kind
 
-abbrev pub at : ℕ → ℕ → Event → Bool
-at kind offset e = isKind kind e && eqb (e .step .offset) offset
+abbrev pub isAt : ℕ → ℕ → Event → Bool
+isAt kind offset e = isKind kind e && eqb (e .step .offset) offset
 
 -- a write of a kind to offset 3C with byte 3 enabled and a one in bit k
 abbrev pub command : ℕ → ℕ → Event → Bool
-command kind k e = at kind 0x3C e && bit (e .step .enables) 3 && bit (e .step .value) k
+command kind k e = isAt kind 0x3C e && bit (e .step .enables) 3 && bit (e .step .value) k
 
 -- ---- the FIFOs, each named by the side that feeds it
 
@@ -33,13 +32,13 @@ clears addon e = isKind 6 e || command 1 26 e
 
 -- the words let in, if done: the data of a port write, and what a read cycle answers
 abbrev pub wordsIn : Side → Event → List ℕ
-wordsIn pci e = cond (isKind 5 e) (e .answer .value ∷ []) (cond (at 1 0x20 e) (e .step .value ∷ []) [])
-wordsIn addon e = cond (at 3 0x20 e) (e .step .value ∷ []) []
+wordsIn pci e = cond (isKind 5 e) (e .answer .value ∷ []) (cond (isAt 1 0x20 e) (e .step .value ∷ []) [])
+wordsIn addon e = cond (isAt 3 0x20 e) (e .step .value ∷ []) []
 
 -- the words handed out, if done: what a port read answers, and what a write cycle answers
 abbrev pub wordsOut : Side → Event → List ℕ
-wordsOut pci e = cond (at 2 0x20 e) (e .answer .value ∷ []) []
-wordsOut addon e = cond (isKind 4 e || at 0 0x20 e) (e .answer .value ∷ []) []
+wordsOut pci e = cond (isAt 2 0x20 e) (e .answer .value ∷ []) []
+wordsOut addon e = cond (isKind 4 e || isAt 0 0x20 e) (e .answer .value ∷ []) []
 
 -- the books of a FIFO: the words let in and the words handed out since it was last emptied by a clear or reset
 pub record Tally : Type 0 where
@@ -99,11 +98,11 @@ abbrev pub latest : ℕ → List Event → Touch
 latest k [] = none
 latest k (e ∷ es) = later (latest k es) (touch k e)
 
-abbrev pub isWrite : Touch → Bool
-isWrite write = true
-isWrite read = false
-isWrite clear = false
-isWrite none = false
+abbrev pub wasWrite : Touch → Bool
+wasWrite write = true
+wasWrite read = false
+wasWrite clear = false
+wasWrite none = false
 
 -- ---- two runs
 
@@ -118,11 +117,8 @@ pub record Alike (s t : Step) : Type 0 where
   pub value : isPortWrite s ≡ false → s .value ≡ t .value
 
 pub data AllAlike : List Step → List Step → Type 0 where
-  none : AllAlike [] []
-  more : {s t : Step} {ss ts : List Step} → Alike s t → AllAlike ss ts → AllAlike (s ∷ ss) (t ∷ ts)
-
-abbrev pub answers : List Event → List Answer
-answers es = map (λ (e : Event). e .answer) es
+  noSteps : AllAlike [] []
+  oneMore : {s t : Step} {ss ts : List Step} → Alike s t → AllAlike ss ts → AllAlike (s ∷ ss) (t ∷ ts)
 
 -- every event has a property
 abbrev pub Every : (Event → Type 0) → List Event → Type 0

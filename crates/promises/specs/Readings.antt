@@ -111,8 +111,8 @@ acknowledges k x = isWrite pci (x .kind) && eqb (x .offset) 0x38 && bit (x .enab
 -- What sets bit k of INTCSR. 16: the Add-On reads, of the outgoing mailbox that bits 3:2 choose, the byte that 1:0 choose, while bit 4 is set.
 -- 17: the Add-On writes, of the incoming mailbox that bits 11:10 choose, the byte that 9:8 choose, while bit 12 is set.
 -- 18 and 19: a write or a read cycle whose count is at most 4.
-abbrev pub sets : ℕ → State → Access → Bool
-sets k st x =
+abbrev pub setsBit : ℕ → State → Access → Bool
+setsBit k st x =
     let i = st .intcsr in
     eqb k 16 && (isRead addon (x .kind) && (bit i 4 && (eqb (x .offset) (i / 2 ^ 2 % 4 * 4) && bit (x .enables) (i % 4))))
     || eqb k 17 && (isWrite addon (x .kind) && (bit i 12 && (eqb (x .offset) (0x10 + i / 2 ^ 10 % 4 * 4) && bit (x .enables) (i / 2 ^ 8 % 4))))
@@ -124,4 +124,4 @@ abbrev pub EventRule : Type 0
 EventRule =
     (k : ℕ) → 16 ≤ k → k ≤ 21 → (st : State) (start : ℕ) (memory : List ℕ) (s : Step)
     → (let o = stepOf st start memory s in let x = accessOf s in
-    o .answer .code ≡ 0 → eqb (s .kind) 6 ≡ false → bit (o .state .intcsr) k ≡ (bit (st .intcsr) k && not (acknowledges k x) || sets k st x))
+    o .answer .code ≡ 0 → eqb (s .kind) 6 ≡ false → bit (o .state .intcsr) k ≡ (bit (st .intcsr) k && not (acknowledges k x) || setsBit k st x))

@@ -12,9 +12,9 @@ use Rattle.machine.specs.Access.{Access, accessOf}
 use Rattle.machine.specs.Intcsr.{lineOf}
 use Rattle.machine.specs.Code.{tests, isOutOfForm}
 use Rattle.machine.specs.Step.{stepOf, notAFrame}
-use Rattle.machine.specs.Event.{Event}
+use Rattle.machine.specs.Event.{Event, answers}
 use Rattle.machine.specs.Run.{Rule, runOf, run}
-use Rattle.promises.specs.Account.{tally, latest, isWrite, AllAlike, answers, Every, NoClear, Agreed}
+use Rattle.promises.specs.Account.{tally, latest, wasWrite, AllAlike, Every, NoClear, Agreed}
 use Rattle.machine.specs.declared.Step.{Step}
 use Rattle.machine.specs.declared.Answer.{Answer}
 
@@ -35,9 +35,9 @@ Refused =
     → (let o = stepOf st start memory s in let code = o .answer .code in
     eqb code 0 ≡ false → eqb code 13 ≡ false → o ≡ record { state = st; memory = memory; answer = refusal code st })
 
--- `not-a-frame`: a line that is no frame is answered like a refusal, with code 14
-abbrev pub NotAFrame : Type 0
-NotAFrame = (st : State) → notAFrame st ≡ refusal 14 st
+-- `not-a-frame-answer`: a line that is no frame is answered like a refusal, with code 14
+abbrev pub NotAFrameAnswer : Type 0
+NotAFrameAnswer = (st : State) → notAFrame st ≡ refusal 14 st
 
 -- all but INTCSR is as it was, and INTCSR has bit 20 besides
 pub record AbortOnly (st after : State) : Type 0 where
@@ -111,7 +111,7 @@ FifoAccount = KeepsFifoAccount stepOf
 abbrev pub MailAccount : Type 0
 MailAccount =
     (k : ℕ) → k < 32 → (start : ℕ) (memory : List ℕ) (steps : List Step)
-    → (let r = run resetState start memory steps in bit (r .state .marks) k ≡ isWrite (latest k (r .events)))
+    → (let r = run resetState start memory steps in bit (r .state .marks) k ≡ wasWrite (latest k (r .events)))
 
 -- `two-runs-since`: two runs that differ at most in the data of FIFO port writes, with the same answers and the same words left in a FIFO,
 -- let the same words into it since its last clear or reset

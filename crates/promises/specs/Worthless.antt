@@ -7,19 +7,19 @@ use Rattle.machine.specs.State.{State, resetState}
 use Rattle.machine.specs.Step.{stepOf}
 use Rattle.machine.specs.Event.{Event}
 use Rattle.machine.specs.Run.{Rule, Run, runOf}
-use Rattle.machine.specs.Examples.{Meets, marked}
+use Rattle.machine.specs.Examples.{MeetsTable, marked}
 use Rattle.promises.specs.Account.{isPortWrite}
 use Rattle.promises.specs.Theorems.{KeepsFifoAccount}
 use Rattle.machine.specs.declared.Step.{Step}
 use Rattle.machine.specs.declared.Answer.{Answer}
 
 -- one that refuses everything: it does as any rule does, but its code is never 0
-abbrev pub refusal : Answer → Answer
-refusal a = record { code = suc (a .code); address = a .address; value = a .value; enables = a .enables; line = a .line }
+abbrev pub notDone : Answer → Answer
+notDone a = record { code = suc (a .code); address = a .address; value = a .value; enables = a .enables; line = a .line }
 
 abbrev pub refusing : Rule → Rule
 refusing rule st start memory s =
-    let o = rule st start memory s in record { state = o .state; memory = o .memory; answer = refusal (o .answer) }
+    let o = rule st start memory s in record { state = o .state; memory = o .memory; answer = notDone (o .answer) }
 
 -- one that answers a constant: state and memory go by any rule
 abbrev pub constant : Answer → Rule → Rule
@@ -40,16 +40,16 @@ firstOnly echo st start memory (s ∷ ss) =
 
 -- `refusing-fails`, `constant-fails`, `still-fails`, `first-only-fails`: none of them shows what the marked examples expect
 abbrev pub RefusingFails : Type 0
-RefusingFails = (rule : Rule) → Meets (runOf (refusing rule)) marked → ⊥
+RefusingFails = (rule : Rule) → MeetsTable (runOf (refusing rule)) marked → ⊥
 
 abbrev pub ConstantFails : Type 0
-ConstantFails = (answer : Answer) (rule : Rule) → Meets (runOf (constant answer rule)) marked → ⊥
+ConstantFails = (answer : Answer) (rule : Rule) → MeetsTable (runOf (constant answer rule)) marked → ⊥
 
 abbrev pub StillFails : Type 0
-StillFails = (answer : State → ℕ → List ℕ → Step → Answer) → Meets (runOf (still answer)) marked → ⊥
+StillFails = (answer : State → ℕ → List ℕ → Step → Answer) → MeetsTable (runOf (still answer)) marked → ⊥
 
 abbrev pub FirstOnlyFails : Type 0
-FirstOnlyFails = (echo : Step → Answer) → Meets (firstOnly echo) marked → ⊥
+FirstOnlyFails = (echo : Step → Answer) → MeetsTable (firstOnly echo) marked → ⊥
 
 -- `constant-breaks`, `still-breaks`: if they answer done to a port write, they break the FIFO account too
 abbrev pub ConstantBreaks : Type 0

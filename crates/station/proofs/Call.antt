@@ -6,14 +6,14 @@ use borrow.Author.Tests.{lt-ltb, le-ltb}
 use lib.ListN.{length}
 use Rattle.lines.specs.Lines.{linesFrom}
 use Rattle.log.specs.Log.{logOf, toldOf}
-use Rattle.log.specs.Results.{isShort, withLog, runOf}
+use Rattle.log.specs.Results.{isShort, withLog, textRun}
 use Rattle.station.specs.Call.{fromReset, isTooLong, numberOf, resultOf, outputOf, CallUnique, EmptyCall, InputLimit}
 
 pub call-unique : CallUnique
 call-unique input output r q after also p o = (p .result ∙ sym (o .result), p .written ∙ sym (o .written))
 
 pub empty-call : EmptyCall
-unfolding linesFrom logOf toldOf isShort withLog runOf fromReset isTooLong numberOf resultOf outputOf
+unfolding linesFrom logOf toldOf isShort withLog textRun fromReset isTooLong numberOf resultOf outputOf
 empty-call output =
     let enough = le-ltb (length output) 0 zero-le in
     (simp enough, simp enough)

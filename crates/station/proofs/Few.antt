@@ -11,16 +11,16 @@ use Rattle.lines.proofs.Lines.{lines-few}
 use Rattle.logline.specs.LogLine.{lineRoom}
 use Rattle.log.specs.declared.Logged.the-variants.{Written, NoRoom}
 use Rattle.log.specs.Log.{logOf, textTold}
-use Rattle.log.specs.Results.{isShort, runOf}
+use Rattle.log.specs.Results.{isShort, textRun}
 use Rattle.log.proofs.Told.{log-length, told-length}
 
 module _ (st : State) (start : ℕ) (memory text out : List ℕ) (n : ℕ) where
-  by-room : (t : Bool) → isShort (length (lines text)) out ≡ t → runOf st start memory text out .log ≡ Written n → n ≡ length (logOf (textTold st start memory text .answers))
-  unfolding runOf
+  by-room : (t : Bool) → isShort (length (lines text)) out ≡ t → textRun st start memory text out .log ≡ Written n → n ≡ length (logOf (textTold st start memory text .answers))
+  unfolding textRun
   by-room true q e = let z : NoRoom ≡ Written n = rw q at e in let w : _≡_ {A = ℕ} 0 1 = cc in absurd (omega arith)
   by-room false q e = let z : Written (length (logOf (textTold st start memory text .answers))) ≡ Written n = rw q at e in cc
 
-  pub few : runOf st start memory text out .log ≡ Written n → n ≤ lineRoom * length text
+  pub few : textRun st start memory text out .log ≡ Written n → n ≤ lineRoom * length text
   few e =
       omega (
         arith,

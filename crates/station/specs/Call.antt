@@ -5,16 +5,16 @@ use mathlib.Core.List.{List, []}
 use mathlib.Core.Bool.{Bool, true, false, cond}
 use lib.IntN.{ℤ, pos, negsuc}
 use lib.ListN.{length}
-use Rattle.log.specs.Log.{zeroWords}
 use lib.Dec.{ltb}
 use Rattle.machine.specs.State.{resetState}
+use Rattle.machine.specs.Window.{zeroWords}
 use Rattle.log.specs.declared.Logged.{Logged}
 use Rattle.log.specs.declared.Logged.the-variants.{Written, NoRoom}
-use Rattle.log.specs.Results.{Run, runOf}
+use Rattle.log.specs.Results.{TextRun, textRun}
 
 -- "from reset, with 4,096 zero words of memory at address 0"
-unfoldable pub fromReset : List ℕ → List ℕ → Run
-fromReset input output = runOf resetState 0 zeroWords input output
+unfoldable pub fromReset : List ℕ → List ℕ → TextRun
+fromReset input output = textRun resetState 0 zeroWords input output
 
 -- "if the input exceeds 1,048,576 bytes"
 unfoldable pub isTooLong : List ℕ → Bool

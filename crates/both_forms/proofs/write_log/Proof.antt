@@ -16,26 +16,8 @@ Inv-loop text is-in-place memory₀ out₀ c₀ before₀ at₀ memory out c bef
 abbrev μ-loop : tie.MeasureT-loop
 μ-loop text is-in-place memory₀ out₀ c₀ before₀ at₀ memory out c before at = length text - at
 
-reset-requires : tie.Need-reset-requires Inv-loop μ-loop
-reset-requires c κs = search needs
-
 loop-holds : tie.Need-loop-holds Inv-loop μ-loop
 loop-holds c = (length-replicate {A = ℕ} 4096 0, length-replicate {A = ℕ} 40 0)
-
-slice-aggregate-answer : tie.Need-slice-aggregate-answer Inv-loop μ-loop
-slice-aggregate-answer c = search needs
-
-line-requires : tie.Need-line-requires Inv-loop μ-loop
-line-requires c κs = search needs
-
-answer-requires : tie.Need-answer-requires Inv-loop μ-loop
-answer-requires c κs = search needs
-
-slice-aggregate-put-line : tie.Need-slice-aggregate-put-line Inv-loop μ-loop
-slice-aggregate-put-line c = search needs
-
-put-line-requires : tie.Need-put-line-requires Inv-loop μ-loop
-put-line-requires c κs = search needs
 
 -- a log line is within the array
 few : (c : tie.After-put-line Inv-loop μ-loop) → c .put-line .result ≤ length (c .put-line .last .0)
@@ -49,21 +31,12 @@ array-share-prefix-out c = omega (arith, few (c .before))
 slice-aggregate-write-all : tie.Need-slice-aggregate-write-all Inv-loop μ-loop
 slice-aggregate-write-all c = sym (length-take-le (c .before .before .put-line .result) (c .before .before .put-line .last .0) (omega (arith, few (c .before .before))))
 
-write-all-requires : tie.Need-write-all-requires Inv-loop μ-loop
-write-all-requires c κs = search needs
-
-past-line-requires : tie.Need-past-line-requires Inv-loop μ-loop
-past-line-requires c κs = search needs
-
 loop-less : tie.Need-loop-less Inv-loop μ-loop
 loop-less c = let l = c .before .before .before .before .before .before .before .before .before .before .before .before .before in omega (arith, c .past-line .ensures, past-is (now (l .before .before .before .args .text)) (l .loop .at) (c .before .before .before .before .before .before .before .before .before .before .before .before .loop-test .taken))
 
 loop-again : tie.Need-loop-again Inv-loop μ-loop
 loop-again c = let l = c .before .before .before .before .before .before .before .before .before .before .before .before .before in (c .before .before .before .before .before .before .before .before .before .answer .kept .1 .0 ∙ l .loop .inv .0, c .before .before .before .before .put-line .kept .0 ∙ l .loop .inv .1)
 
-returns : tie.Need-returns Inv-loop μ-loop
-returns c = search needs
-
 pub write-log-spec : {M : Type 1} → statement M
 write-log-spec =
-    tie.close (tie.spec Inv-loop μ-loop reset-requires loop-holds slice-aggregate-answer line-requires answer-requires slice-aggregate-put-line put-line-requires array-share-prefix-out slice-aggregate-write-all write-all-requires past-line-requires loop-less loop-again returns)
+    tie.close (tie.spec Inv-loop μ-loop (λ c κs. search needs) loop-holds (λ c. search needs) (λ c κs. search needs) (λ c κs. search needs) (λ c. search needs) (λ c κs. search needs) array-share-prefix-out slice-aggregate-write-all (λ c κs. search needs) (λ c κs. search needs) loop-less loop-again (λ c. search needs))

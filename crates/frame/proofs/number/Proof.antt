@@ -29,12 +29,6 @@ next c =
 loop-holds : tie.Need-loop-holds Inv-loop μ-loop
 loop-holds c = (omega arith, lit< tt, refl, refl)
 
-shared-slice-read-digit-number : tie.Need-shared-slice-read-digit-number Inv-loop μ-loop
-shared-slice-read-digit-number c = omega arith
-
-digit-number-requires : tie.Need-digit-number-requires Inv-loop μ-loop
-digit-number-requires c κs = search needs
-
 returns : tie.Need-returns Inv-loop μ-loop
 unfolding valueOf
 returns c =
@@ -44,17 +38,8 @@ returns c =
 mul-n : tie.Need-mul-n Inv-loop μ-loop
 mul-n c = omega (arith, next c)
 
-cast-n : tie.Need-cast-n Inv-loop μ-loop
-cast-n c = omega arith
-
 add-n : tie.Need-add-n Inv-loop μ-loop
 add-n c = omega (arith, next c)
-
-add-i : tie.Need-add-i Inv-loop μ-loop
-add-i c = omega arith
-
-loop-less : tie.Need-loop-less Inv-loop μ-loop
-loop-less c = omega arith
 
 loop-again : tie.Need-loop-again Inv-loop μ-loop
 loop-again c =
@@ -75,4 +60,4 @@ returns-2 c =
 
 pub number-spec : {M : Type 1} → statement M
 number-spec =
-    tie.close (tie.spec Inv-loop μ-loop loop-holds shared-slice-read-digit-number digit-number-requires returns mul-n cast-n add-n add-i loop-less loop-again returns-2)
+    tie.close (tie.spec Inv-loop μ-loop loop-holds (λ c. omega arith) (λ c κs. search needs) returns mul-n (λ c. omega arith) add-n (λ c. omega arith) (λ c. omega arith) loop-again returns-2)

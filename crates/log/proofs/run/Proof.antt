@@ -7,7 +7,7 @@ use lib.ListN.{length}
 use Rattle.controller.specs.Controller.{stateOf}
 use Rattle.lines.specs.Lines.{lines}
 use Rattle.log.specs.Log.{textTold, fedOf}
-use Rattle.log.specs.Results.{runOf}
+use Rattle.log.specs.Results.{textRun}
 use Rattle.log.proofs.Told.{told-length, log-length}
 use Rattle.log.proofs.Room.{short, long, log-end, with-log}
 use Rattle.log.proofs.Ends.{text-fed, fed-answers, then-ends}
@@ -16,7 +16,7 @@ use Rattle.log.proofs.run.Statement.{statement}
 use Rattle.log.proofs.run.Tie as tie
 
 returns : tie.Need-returns
-unfolding runOf
+unfolding textRun
 returns c =
     let a = c .before .before .before .before .before .args in
     let few = short (length (lines (now (a .text)))) (now (a .out)) (rw (← c .before .line-count .ensures) (c .if1 .taken)) in
@@ -42,7 +42,7 @@ end-line-requires c κs =
     (omega (arith, b .before .if1 .left, n .line-count .ensures, fed-answers (stateOf (a .c)) (a .start) (now (a .memory)) (now (a .text)), w .log .next, log-length (fed .answers), f .feed-bytes .kept .1 .1 .1 .1 .0))
 
 returns-2 : tie.Need-returns-2
-unfolding runOf
+unfolding textRun
 returns-2 c =
     let g = c .before .before .before .before .before .before in
     let f = g .before .before .before .before .before .before .before .before in

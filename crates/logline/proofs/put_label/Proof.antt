@@ -2,7 +2,7 @@ use Prim.Native.Nat.{ℕ, _+_, _≤_, zero-le}
 use mathlib.Core.Path.{_≡_}
 use native.Mathlib.Omega.{arith}
 use Rattle.logline.specs.Labels.{labels, labelOf}
-use Rattle.logline.proofs.Labels.{past}
+use Rattle.logline.proofs.Labels.{label-past}
 use Rattle.logline.proofs.Stores.{wrote-none}
 use borrow.Author.Needs.{needs}
 use Rattle.logline.proofs.put_label.Statement.{statement}
@@ -76,7 +76,7 @@ returns-16 : tie.Need-returns-16
 returns-16 c =
     let r = c .match .rest in
     let n : 15 ≤ c .before .before .args .code = up (up (up (up (up (up (up (up (up (up (up (up (up (up (up zero-le (r .0 .0 .0 .0 .0 .0 .0 .0 .0 .0 .0 .0 .0 .0 .1)) (r .0 .0 .0 .0 .0 .0 .0 .0 .0 .0 .0 .0 .0 .1)) (r .0 .0 .0 .0 .0 .0 .0 .0 .0 .0 .0 .0 .1)) (r .0 .0 .0 .0 .0 .0 .0 .0 .0 .0 .0 .1)) (r .0 .0 .0 .0 .0 .0 .0 .0 .0 .0 .1)) (r .0 .0 .0 .0 .0 .0 .0 .0 .0 .1)) (r .0 .0 .0 .0 .0 .0 .0 .0 .1)) (r .0 .0 .0 .0 .0 .0 .0 .1)) (r .0 .0 .0 .0 .0 .0 .1)) (r .0 .0 .0 .0 .0 .1)) (r .0 .0 .0 .0 .1)) (r .0 .0 .0 .1)) (r .0 .0 .1)) (r .0 .1)) (r .1) in
-    rw (past _ n) wrote-none
+    rw (label-past _ n) wrote-none
 
 pub put-label-spec : {M : Type 1} → statement M
 put-label-spec =

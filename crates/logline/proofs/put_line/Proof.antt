@@ -1,8 +1,7 @@
 use Prim.Native.Nat.{_<_}
-use lib.ListN.{length}
+use lib.ListN.{length, length-set}
 use denote.Ref.{now}
 use native.Mathlib.Omega.{arith}
-use lib.ListN.{length-set}
 use Rattle.logline.specs.LogLine.{logBody, logLine}
 use Rattle.logline.proofs.Stores.{wrote-none, wrote-one, wrote-then, wrote-length}
 use Rattle.logline.proofs.Labels.{labels-short}

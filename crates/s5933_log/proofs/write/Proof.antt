@@ -15,9 +15,6 @@ slice-aggregate-write-all c =
     let s = l .before .before .before in
     sym (length-take-le (l .log .given .0 .0) (now (s .args .out)) (leb-true (l .log .given .0 .0) (length (now (s .args .out))) (rw (l .log .given .1) at (s .pre))))
 
-returns-3 : tie.Need-returns-3
-returns-3 c = search needs
-
 pub write-spec : {M : Type 1} → statement M
 write-spec =
-    tie.close (tie.spec (λ c. search needs) slice-aggregate-write-all (λ c κs. search needs) (λ c. search needs) (λ c. search needs) (λ c κs. search needs) (λ c. search needs) (λ c. search needs) (λ c κs. search needs) (λ c. search needs) returns-3)
+    tie.close (tie.spec (λ c. search needs) slice-aggregate-write-all (λ c κs. search needs) (λ c. search needs) (λ c. search needs) (λ c κs. search needs) (λ c. search needs) (λ c. search needs) (λ c κs. search needs) (λ c. search needs) (λ c. search needs))

@@ -8,9 +8,6 @@ use Rattle.states.proofs.run_line.Tie as tie
 slice-aggregate-run-case : tie.Need-slice-aggregate-run-case
 slice-aggregate-run-case c = sym (length-take-le (c .before .before .field .result) (now (c .before .before .before .before .before .args .memory)) (c .before .if1 .taken))
 
-returns-2 : tie.Need-returns-2
-returns-2 c = search needs
-
 pub run-line-spec : {M : Type 1} → statement M
 run-line-spec =
-    tie.close (tie.spec (λ c κs. search needs) (λ c. search needs) (λ c. search needs) slice-aggregate-run-case (λ c κs. search needs) (λ c. search needs) (λ c. search needs) returns-2)
+    tie.close (tie.spec (λ c κs. search needs) (λ c. search needs) (λ c. search needs) slice-aggregate-run-case (λ c κs. search needs) (λ c. search needs) (λ c. search needs) (λ c. search needs))

@@ -18,9 +18,6 @@ array-share-prefix-out c = omega (arith, few (c .before))
 slice-aggregate-write-all : tie.Need-slice-aggregate-write-all
 slice-aggregate-write-all c = sym (length-take-le (c .before .before .put-line .result) (c .before .before .put-line .last .0) (omega (arith, few (c .before .before))))
 
-returns : tie.Need-returns
-returns c = search needs
-
 pub write-answer-spec : {M : Type 1} → statement M
 write-answer-spec =
-    tie.close (tie.spec (λ c. search needs) (λ c κs. search needs) array-share-prefix-out slice-aggregate-write-all (λ c κs. search needs) returns)
+    tie.close (tie.spec (λ c. search needs) (λ c κs. search needs) array-share-prefix-out slice-aggregate-write-all (λ c κs. search needs) (λ c. search needs))

@@ -8,7 +8,7 @@ use lib.ListN.{replicate}
 use mir.Syntax.{w64}
 use mir.ValLaws.{toZ-pos}
 use Rattle.machine.specs.State.{resetState}
-use Rattle.log.specs.Results.{Run, runOf}
+use Rattle.log.specs.Results.{TextRun, textRun}
 use Rattle.station.specs.Call.{isTooLong, fromReset, numberOf, resultOf, outputOf}
 use Rattle.station.proofs.Few.{few}
 use borrow.Author.Needs.{needs}
@@ -21,7 +21,7 @@ ran : (r : tie.After-run) → record {
   memory = r .run .last .1 .0;
   out = r .run .last .1 .1 .1 .1 .0;
   log = r .run .result .log;
-} ≡ runOf resetState 0 (replicate 4096 0) (now (r .before .before .before .before .before .before .before .args .input)) (now (r .before .before .before .before .before .before .before .args .output))
+} ≡ textRun resetState 0 (replicate 4096 0) (now (r .before .before .before .before .before .before .before .args .input)) (now (r .before .before .before .before .before .before .before .args .output))
 ran r = rw (← r .before .before .before .reset .ensures) (r .run .ensures .ran)
 
 -- how long the log is
@@ -47,7 +47,7 @@ returns-2 c =
     let t = le-ltb _ _ (r .before .before .before .before .if1 .left) in
     let e = ran r in
     record {
-      result = simp (t, ← ap (λ (q : Run). q .log) e, c .before .log .given .1) (toZ-pos w64 (c .before .log .given .0 .0) (small c));
+      result = simp (t, ← ap (λ (q : TextRun). q .log) e, c .before .log .given .1) (toZ-pos w64 (c .before .log .given .0 .0) (small c));
       written = simp t (λ i. e i .out);
     }
 
@@ -58,7 +58,7 @@ returns-3 c =
     let t = le-ltb _ _ (r .before .before .before .before .if1 .left) in
     let e = ran r in
     record {
-      result = simp (t, ← ap (λ (q : Run). q .log) e, c .enum-told .given .1);
+      result = simp (t, ← ap (λ (q : TextRun). q .log) e, c .enum-told .given .1);
       written = simp t (λ i. e i .out);
     }
 
