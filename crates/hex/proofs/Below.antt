@@ -1,5 +1,5 @@
--- A test computed for every number below a bound.
-use Prim.Native.Nat.{ℕ, zero, suc, _<_}
+-- Numbers below a bound: a test computed for each of them; a number that is none of them.
+use Prim.Native.Nat.{ℕ, zero, suc, _<_, _≤_, zero-le}
 use mathlib.Core.Path.{_≡_, refl}
 use mathlib.Core.Bool.{Bool, true, false, cond}
 use native.Mathlib.Omega.{arith}
@@ -23,3 +23,12 @@ below-at test zero k e h = absurd (omega arith)
 below-at test (suc n) k e h =
     let parts = both (test n) (below test n) e in
     step test n k (parts .0) (below-at test n k (parts .1)) (ℕ-discrete k n) h
+
+-- what the last arm of a `match` knows, after arms for all numbers below n
+abbrev pub NoneBelow : ℕ → ℕ → Type 0
+NoneBelow zero x = Unit
+NoneBelow (suc n) x = NoneBelow n x × (x ≡ n → ⊥)
+
+pub none-below : (n x : ℕ) → NoneBelow n x → n ≤ x
+none-below zero x h = zero-le
+none-below (suc n) x h = let before = none-below n x (h .0) in let other = h .1 in omega arith
