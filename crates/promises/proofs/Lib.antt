@@ -9,6 +9,7 @@ pub mod Form
 pub mod FifoAccount
 pub mod TwoRuns
 pub mod MailAccount
+pub mod MailBytes
 pub mod Worthless
 pub mod Readings
 pub mod Events
