@@ -13,5 +13,7 @@ pub mod MailBytes
 pub mod Worthless
 pub mod Readings
 pub mod Events
+pub mod Registers
+pub mod Aborts
 pub mod Steps
 pub mod Unique

@@ -1,7 +1,7 @@
 -- What is proved of the machine: a statement for each promise. The proofs are in proofs/, each under the name that stands beside its statement.
 use Prim.Native.Nat.{ℕ, _/_, _%_, _≤_, _<_}
 use mathlib.Core.Path.{_≡_}
-use mathlib.Core.Bool.{Bool, true, false, cond, _||_}
+use mathlib.Core.Bool.{Bool, true, false, cond, not, _&&_, _||_}
 use mathlib.Core.List.{List, [], _∷_, _++_, map}
 use lib.Dec.{eqb}
 use lib.ListN.{length, getD}
@@ -60,6 +60,12 @@ Aborted =
     o .answer .code ≡ 13
     → AbortOnly st (o .state)
     × ((o .memory ≡ memory) × (o .answer ≡ record { code = 13; address = cycleAddress st s; value = 0; enables = 0; line = true })))
+
+-- `only-aborts`: a step sets INTCSR bit 20, which was clear, exactly if it answers 13
+abbrev pub OnlyAborts : Type 0
+OnlyAborts =
+    (st : State) (start : ℕ) (memory : List ℕ) (s : Step)
+    → (let o = stepOf st start memory s in (not (bit (st .intcsr) 20) && bit (o .state .intcsr) 20) ≡ eqb (o .answer .code) 13)
 
 -- the test of a code in a list of tests
 abbrev pub testOf : ℕ → List (ℕ × Bool) → Bool
