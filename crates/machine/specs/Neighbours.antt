@@ -14,14 +14,16 @@ abbrev pub case : State → ℕ → List ℕ → List Step → List Answer → E
 case state start memory steps answers =
     record { state = state; start = start; memory = memory; steps = steps; answers = answers; places = []; words = [] }
 
--- a lane, and a state with an abort standing: its interrupt line is high
+-- a lane
 abbrev pub laneBy : List ℕ → ℕ → ℕ → Lane
 laneBy words address count = record { words = words; address = address; count = count }
 
+-- a state with no mailbox byte stored
 abbrev pub stateBy : Lane → Lane → ℕ → ℕ → State
 stateBy fromPci fromAddon intcsr mcsr =
     record { mail = replicate 8 0; marks = 0; fromPci = fromPci; fromAddon = fromAddon; intcsr = intcsr; mcsr = mcsr }
 
+-- an abort stands, so the interrupt line is high
 abbrev pub abortStanding : State
 abortStanding = stateBy resetLane resetLane 0x100000 0
 
@@ -85,10 +87,14 @@ accessCases =
     (pciRead 0x40 ∷ pciRead 0x01 ∷ pciWrite 0x22 0 ∷ stepBy 0 0x41 16 0 ∷ addonRead 0x24 ∷ addonRead 0x38 ∷ addonWrite 0x3C 0 ∷ addonRead 0x03 ∷ [])
     (refuses 4 ∷ refuses 4 ∷ refuses 4 ∷ refuses 4 ∷ refuses 4 ∷ refuses 4 ∷ refuses 4 ∷ refuses 4 ∷ [])
     ∷ example (addonRead 0x28 ∷ addonRead 0x2C ∷ addonRead 0x30 ∷ []) (refuses 4 ∷ refuses 4 ∷ refuses 4 ∷ [])
+    -- offsets above FF, whose lowest byte is in the table
+    ∷ example (pciRead 0x100 ∷ pciWrite 0x13C 0 ∷ addonRead 0x134 ∷ stepBy 2 0xFFFFFF00 15 0 ∷ []) (refuses 4 ∷ refuses 4 ∷ refuses 4 ∷ refuses 4 ∷ [])
     -- enables above 15, before part FIFO accesses and read-only registers
     ∷ example
     (stepBy 0 0 16 0 ∷ stepBy 1 0x34 16 0 ∷ stepBy 2 0x20 31 0 ∷ stepBy 1 0x3C 16 0 ∷ stepBy 3 0x10 16 0 ∷ [])
     (refuses 5 ∷ refuses 5 ∷ refuses 5 ∷ refuses 5 ∷ refuses 5 ∷ [])
+    -- enables above FF, whose lowest bits are good ones
+    ∷ example (stepBy 0 0 0x100 0 ∷ stepBy 1 0 0x10F 1 ∷ stepBy 3 0x10 0xFFFFFFFF 1 ∷ []) (refuses 5 ∷ refuses 5 ∷ refuses 5 ∷ [])
     -- part FIFO accesses, before empty
     ∷ example (stepBy 0 0x20 0 0 ∷ stepBy 1 0x20 7 0 ∷ stepBy 2 0x20 14 0 ∷ stepBy 3 0x20 1 0 ∷ []) (refuses 6 ∷ refuses 6 ∷ refuses 6 ∷ refuses 6 ∷ [])
     -- read-only registers, also with enables of 0
@@ -116,6 +122,11 @@ mailCases =
     (ok ∷ ok ∷ says 0x80008000 ∷ ok ∷ ok ∷ says 0x80000000 ∷ says 0xC3000000 ∷ says 0x80008000 ∷ [])
     -- an incoming byte stays when it is read, and when MCSR 27 marks it empty
     ∷ example (addonWrite 0x14 7 ∷ pciRead 0x14 ∷ pciRead 0x14 ∷ pciWrite 0x3C 0x08000000 ∷ pciRead 0x14 ∷ []) (ok ∷ says 7 ∷ says 7 ∷ ok ∷ says 7 ∷ [])
+    -- writes of other registers store in no mailbox
+    ∷ example
+    (pciWrite 0x00 0x11223344 ∷ addonWrite 0x1C 5 ∷ pciWrite 0x20 0 ∷ pciWrite 0x24 0 ∷ pciWrite 0x28 0 ∷ pciWrite 0x2C 0 ∷ pciWrite 0x30 0 ∷ pciWrite 0x38 0
+    ∷ pciRead 0x00 ∷ pciRead 0x1C ∷ [])
+    (ok ∷ ok ∷ ok ∷ ok ∷ ok ∷ ok ∷ ok ∷ ok ∷ says 0x11223344 ∷ says 5 ∷ [])
     -- MCSR 27 marks every byte empty, where its byte is enabled; the bytes stay
     ∷ example
     (pciWrite 0x08 6 ∷ addonWrite 0x14 7 ∷ stepBy 1 0x3C 7 0x08000000 ∷ pciRead 0x34 ∷ stepBy 1 0x3C 8 0x08000000 ∷ pciRead 0x34 ∷ addonRead 0x08 ∷ pciRead 0x3C ∷ [])
@@ -131,6 +142,9 @@ cycleCases =
     (pciWrite 0x20 1 ∷ addonWrite 0x20 2 ∷ stepBy 1 0x3C 7 0x06000000 ∷ stepBy 1 0x3C 8 0x02000000 ∷ pciRead 0x3C ∷ addonRead 0x20 ∷ stepBy 1 0x3C 8 0x04000000
     ∷ pciRead 0x20 ∷ [])
     (ok ∷ ok ∷ ok ∷ ok ∷ says 0xC6 ∷ refuses 8 ∷ ok ∷ refuses 8 ∷ [])
+    -- they leave the addresses and counts
+    ∷ case (stateBy (laneBy (1 ∷ []) 4 5) (laneBy (2 ∷ []) 8 6) 0 0) 0 []
+    (pciWrite 0x3C 0x06000000 ∷ pciRead 0x24 ∷ pciRead 0x28 ∷ pciRead 0x2C ∷ pciRead 0x30 ∷ []) (ok ∷ says 8 ∷ says 6 ∷ says 4 ∷ says 5 ∷ [])
     -- read cycles with count 6: the second lets in two bytes; the count's zero sets 19, whose line 15 enables
     ∷ case resetState 0 (set (set zeroWords 0xFFE 0x11223344) 0xFFF 0x55667788)
     (pciWrite 0x2C 0x3FF8 ∷ pciWrite 0x30 6 ∷ pciWrite 0x3C 0x4000 ∷ readCycle ∷ readCycle ∷ readCycle ∷ pciRead 0x38 ∷ pciRead 0x2C ∷ pciRead 0x30
@@ -148,8 +162,9 @@ cycleCases =
     (refuses 9 ∷ refuses 9 ∷ ok ∷ refuses 10 ∷ refuses 10 ∷ ok ∷ refuses 12 ∷ [])
     -- MCSR 15, 12 and 8 enable nothing
     ∷ example (pciWrite 0x3C 0x9100 ∷ pciWrite 0x28 4 ∷ pciWrite 0x30 4 ∷ writeCycle ∷ readCycle ∷ []) (ok ∷ ok ∷ ok ∷ refuses 9 ∷ refuses 9 ∷ [])
-    -- and prevent nothing
-    ∷ case (stateBy (laneBy [] 0 4) (laneBy (7 ∷ []) 4 4) 0 0xD500) 0 (5 ∷ 6 ∷ []) (writeCycle ∷ readCycle ∷ []) (moves 4 7 0xF ∷ moves 0 5 0xF ∷ [])
+    -- and prevent nothing; cycles leave MCSR, and INTCSR's kept bits
+    ∷ case (stateBy (laneBy [] 0 8) (laneBy (7 ∷ []) 4 8) 0xDF1F 0xD500) 0 (5 ∷ 6 ∷ []) (writeCycle ∷ readCycle ∷ pciRead 0x38 ∷ pciRead 0x3C ∷ [])
+    (moves 4 7 0xF ∷ moves 0 5 0xF ∷ says 0xDF1F ∷ says 0xD522 ∷ [])
     -- write cycles with counts 3 and 2
     ∷ record {
       state = stateBy resetLane (laneBy (0x11223344 ∷ 0x55667788 ∷ []) 0 3) 0 0x400;
@@ -174,7 +189,7 @@ cycleCases =
     (ok ∷ ok ∷ says 0xF7E6 ∷ says 0xE6 ∷ ok ∷ says 0xE6 ∷ ok ∷ says 0x1F00 ∷ [])
     -- a chip reset leaves host memory and zeroes the rest
     ∷ record {
-      state = stateBy (laneBy (1 ∷ []) 4 1) (laneBy (2 ∷ []) 8 2) 0x10DF1F 0xF700;
+      state = stateBy (laneBy (1 ∷ []) 8 1) (laneBy (2 ∷ []) 4 2) 0x10DF1F 0xF700;
       start = 0;
       memory = 5 ∷ 6 ∷ [];
       steps = pciWrite 0x00 9 ∷ stepBy 6 0 0 0 ∷ pciRead 0x00 ∷ pciRead 0x34 ∷ pciRead 0x38 ∷ pciRead 0x3C ∷ pciRead 0x24 ∷ pciRead 0x2C ∷ [];

@@ -1,4 +1,5 @@
-// A step and its answer, as numbers, and the numbers by name. The definitions in specs/ and the code that meets them share them.
+// A step and its answer, as numbers, and the numbers of kinds, codes and offsets by name. The definitions in specs/ and the code that meets them
+// share the two structs; the named numbers stand in specs/ once more.
 
 pub mod codes;
 pub mod kinds;

@@ -5,7 +5,8 @@ use mathlib.Core.Bool.{Bool, true, false, not, _&&_, _||_, or-false, and-assoc, 
 use native.Mathlib.Nat.{mod-lt, div-div-eq-div-mul, pow-suc, mul-comm, mul-one, one-mul, sub-zero, suc-sub-suc, zero-div, div-eq-of-lt, lt-of-lt-of-le, pow-le-pow-right}
 use native.Mathlib.Omega.{arith}
 use lib.Dec.{eqb, leb, ltb, leb·zero, leb·suc-zero, leb·suc-suc}
-use lib.Bits.{bitAnd, bitOr, and-shr, or-shr, and-step, or-step, shifted-even, shifted-half}
+use lib.Bits.{bitAnd, bitOr, and-mask, and-shr, or-shr, and-step, or-step, shifted-even, shifted-half}
+use lib.Pow.{pow-add}
 use borrow.Author.Tests.{eqb-true, eqb-false, eq-eqb, ne-eqb, leb-true, leb-false, lt-ltb, le-ltb}
 use Rattle.machine.specs.Words.{bit, flag, raised, cleared, only}
 
@@ -124,17 +125,13 @@ bit-ones (suc n) (suc k) =
     let half : (2 ^ suc n - 1) / 2 ≡ 2 ^ n - 1 = omega (arith, lt-power n) in
     bit-half (2 ^ suc n - 1) k ∙ rw half (bit-ones n k) ∙ sym (leb·suc-suc (suc k) n)
 
--- the four lowest bits
-pub bit-low : (e j : ℕ) → bit (e % 16) j ≡ (ltb j 4 && bit e j)
+-- the n lowest bits, and those from m on
+pub bit-low : (n x j : ℕ) → bit (x % 2 ^ n) j ≡ (ltb j n && bit x j)
+bit-low n x j = rw (← and-mask, bit-and, bit-ones) (and-comm (bit x j) (ltb j n))
+
+pub bit-shr : (x m j : ℕ) → bit (x / 2 ^ m) j ≡ bit x (m + j)
 unfolding bit
-bit-low e zero = let d : e % 16 / 1 % 2 ≡ e / 1 % 2 = omega arith in ap (λ (r : ℕ). eqb r 1) d
-bit-low e (suc zero) = let d : e % 16 / 2 % 2 ≡ e / 2 % 2 = omega arith in ap (λ (r : ℕ). eqb r 1) d
-bit-low e (suc (suc zero)) = let d : e % 16 / 4 % 2 ≡ e / 4 % 2 = omega arith in ap (λ (r : ℕ). eqb r 1) d
-bit-low e (suc (suc (suc zero))) = let d : e % 16 / 8 % 2 ≡ e / 8 % 2 = omega arith in ap (λ (r : ℕ). eqb r 1) d
-bit-low e (suc (suc (suc (suc j)))) =
-    let none : e % 16 / 2 / 2 / 2 / 2 ≡ 0 = omega arith in
-    bit-half (e % 16) (suc (suc (suc j))) ∙ bit-half (e % 16 / 2) (suc (suc j)) ∙ bit-half (e % 16 / 2 / 2) (suc j) ∙ bit-half (e % 16 / 2 / 2 / 2) j
-    ∙ rw none (bit-zero j) ∙ sym (ap (λ (b : Bool). b && bit e (suc (suc (suc (suc j))))) (le-ltb (suc (suc (suc (suc j)))) 4 (omega arith)))
+bit-shr x m j = rw (pow-add, ← div-div-eq-div-mul)
 
 -- ---- numbers with the same bits are equal
 
@@ -155,7 +152,7 @@ bits-below (suc n) a b ha hb h =
     let high = bits-below n (a / 2) (b / 2) (omega arith) (omega arith) (λ k. sym (bit-half a k) ∙ h (suc k) ∙ bit-half b k) in
     omega arith
 
-by-bits : (a b : ℕ) → ((k : ℕ) → bit a k ≡ bit b k) → a ≡ b
+pub by-bits : (a b : ℕ) → ((k : ℕ) → bit a k ≡ bit b k) → a ≡ b
 by-bits a b h = bits-below (a + b) a b (omega (arith, lt-power (a + b))) (omega (arith, lt-power (a + b))) h
 
 -- ---- no bit other than those of y

@@ -1,14 +1,16 @@
--- The bits of masks, shown, merged and written words.
-use Prim.Native.Nat.{ℕ, zero, suc, _/_, _^_, _<_}
-use mathlib.Core.Path.{_≡_, refl, _∙_}
+-- The bits of masks, shown, merged and written words, and the bytes of merged ones.
+use Prim.Native.Nat.{ℕ, zero, suc, _+_, _*_, _/_, _^_, _<_}
+use mathlib.Core.Path.{_≡_, refl, sym, ap, _∙_}
 use mathlib.Core.Bool.{Bool, true, false, cond, not, _&&_, _||_, and-true, and-false, or-false}
 use mathlib.Core.List.{List, [], _∷_, head-eq-of-cons-eq, tail-eq-of-cons-eq}
 use native.Mathlib.Omega.{arith}
-use lib.Dec.{eqb}
+use lib.Dec.{eqb, ltb}
 use lib.Bits.{or-lt, and-le-r}
-use borrow.Author.Tests.{eqb-true, eqb-false}
+use borrow.Author.Tests.{eqb-true, eqb-false, ltb-true}
 use Rattle.machine.specs.Words.{bit, ones, byteMask, mask, shown, merged, written}
-use Rattle.promises.proofs.Bits.{bit-or, bit-and, bit-zero, bit-cleared}
+use Rattle.promises.specs.Account.{byteOf}
+use Rattle.promises.proofs.Bits.{bit-or, bit-and, bit-zero, bit-cleared, bit-low, bit-shr, by-bits}
+use Rattle.promises.proofs.After.{cond-part}
 
 -- two tests agree below n if they agree on each: by computation for tests of numbers
 abbrev pub listed : ℕ → (ℕ → Bool) → List Bool
@@ -74,3 +76,27 @@ module _ (k : ℕ) (h : k < 32) where
   pub bit-written : (keeps old new e : ℕ) → bit (written keeps old new e) k ≡ (cond (bit e (k / 8)) (bit new k) (bit old k) && bit keeps k)
   unfolding written
   bit-written keeps old new e = simp (bit-and, bit-merged)
+
+-- ---- the bytes of a merged word
+
+bit-byte : (i word j : ℕ) → bit (byteOf i word) j ≡ (ltb j 8 && bit word (8 * i + j))
+bit-byte i word j = bit-low 8 (word / 2 ^ (8 * i)) j ∙ ap (λ (b : Bool). ltb j 8 && b) (bit-shr word (8 * i) j)
+
+pub byte-merged : (i : ℕ) → i < 4 → (old new e : ℕ) → byteOf i (merged old new e) ≡ cond (bit e i) (byteOf i new) (byteOf i old)
+byte-merged i h old new e =
+    by-bits _ _
+    (λ j.
+    bit-byte i (merged old new e) j ∙ at j (ltb j 8) refl
+    ∙ sym (cond-part (λ (w : ℕ). bit w j) (bit e i) (byteOf i new) (byteOf i old) ∙ (λ d. cond (bit e i) (bit-byte i new j d) (bit-byte i old j d))))
+  where
+    same : (c : Bool) → false ≡ cond c false false
+    same true = refl
+    same false = refl
+
+    at : (j : ℕ) (b : Bool) → ltb j 8 ≡ b
+        → (b && bit (merged old new e) (8 * i + j)) ≡ cond (bit e i) (b && bit new (8 * i + j)) (b && bit old (8 * i + j))
+    at j true q =
+        let l = ltb-true j 8 q in
+        let d : (8 * i + j) / 8 ≡ i = omega arith in
+        bit-merged (8 * i + j) (omega arith) old new e ∙ rw d
+    at j false q = same (bit e i)

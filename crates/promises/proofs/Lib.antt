@@ -9,8 +9,11 @@ pub mod Form
 pub mod FifoAccount
 pub mod TwoRuns
 pub mod MailAccount
+pub mod MailBytes
 pub mod Worthless
 pub mod Readings
 pub mod Events
+pub mod Registers
+pub mod Aborts
 pub mod Steps
 pub mod Unique

@@ -18,7 +18,7 @@ use Rattle.machine.specs.Code.{codeOf}
 use Rattle.machine.specs.Step.{replyOf, stateAfter, stepOf, respond, answered, doneState, abortedState}
 use Rattle.machine.specs.Event.{Event}
 use Rattle.machine.specs.Run.{run}
-use Rattle.promises.specs.Account.{Touch, write, read, clear, none, isDone, toByte, ownerWrites, otherReads, clearsByte, touch, later, latest, wasWrite}
+use Rattle.promises.specs.Account.{Touch, write, read, clear, none, isDone, toByte, ownerWrites, otherReads, clearsBytes, touch, later, latest, wasWrite}
 use Rattle.promises.specs.Theorems.{MailAccount}
 use Rattle.machine.specs.declared.Step.{Step}
 use Rattle.promises.proofs.Numbers.{named, reset-is, commands-is}
@@ -57,6 +57,9 @@ at-byte k h by o e = here (eqb o (k / 4 * 4)) refl
         middle false b = refl
     here false q = elsewhere (isMailbox o) refl q ∙ sym (and-false (by (ltb k 16)))
 
+clears-bytes-is : (e : Event) → (isReset (accessOf (e .step) .kind) || clearsMarks (accessOf (e .step))) ≡ clearsBytes e
+clears-bytes-is e = λ i. reset-is e i || commands-is e 27 i
+
 module _ (k : ℕ) (h : k < 32) (e : Event) where
   abbrev x : Access
   x = accessOf (e .step)
@@ -69,16 +72,13 @@ module _ (k : ℕ) (h : k < 32) (e : Event) where
   by-other true = named (e .step .kind) .addonRead
   by-other false = named (e .step .kind) .pciRead
 
-  fills-is : fillsByte k x ≡ ownerWrites k e
+  pub fills-is : fillsByte k x ≡ ownerWrites k e
   fills-is =
       at-byte k h (λ b. isWriteBy (cond b host card) (x .kind)) (x .offset) (x .enables) ∙ (λ i. by-owner (ltb k 16) i && toByte k e)
 
   takes-is : takesByte k x ≡ otherReads k e
   takes-is =
       at-byte k h (λ b. isReadBy (cond b card host) (x .kind)) (x .offset) (x .enables) ∙ (λ i. by-other (ltb k 16) i && toByte k e)
-
-  clears-byte-is : (isReset (x .kind) || clearsMarks x) ≡ clearsByte k e
-  clears-byte-is = λ i. reset-is e i || commands-is e 27 i
 
 -- ---- one step
 
@@ -112,7 +112,7 @@ touchOf k x = cond (isReset (x .kind) || clearsMarks x) clear (cond (fillsByte k
 
 touch-is : (k : ℕ) → k < 32 → (e : Event) → cond (isDone e) (touchOf k (accessOf (e .step))) none ≡ touch k e
 touch-is k h e =
-    λ i. cond (isDone e) (cond (clears-byte-is k h e i) clear (cond (fills-is k h e i) write (cond (takes-is k h e i) read none))) none
+    λ i. cond (isDone e) (cond (clears-bytes-is e i) clear (cond (fills-is k h e i) write (cond (takes-is k h e i) read none))) none
 
 mark-step : (k : ℕ) → k < 32 → (st : State) (x : Access) (code word : ℕ)
     → bit (stateAfter st x code word .marks) k ≡ touched (cond (eqb code 0) (touchOf k x) none) (bit (st .marks) k)

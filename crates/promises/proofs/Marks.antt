@@ -20,7 +20,7 @@ use Rattle.promises.proofs.After.{cond-part}
 pub bit-marks : (o e k : ℕ) → isMailbox o ≡ true → bit (marksAt o e) k ≡ (eqb o (k / 4 * 4) && bit e (k % 4))
 unfolding marksAt
 bit-marks o e k m =
-    bit-shl (e % 16) o k ∙ ap (λ (b : Bool). leb o k && b) (bit-low e (k - o)) ∙ at (eqb o (k / 4 * 4)) refl (leb o k) refl
+    bit-shl (e % 16) o k ∙ ap (λ (b : Bool). leb o k && b) (bit-low 4 e (k - o)) ∙ at (eqb o (k / 4 * 4)) refl (leb o k) refl
   where
     four : o % 4 ≡ 0
     four = eqb-true (o % 4) 0 (and-right (ltb o 0x20) (eqb (o % 4) 0) m)

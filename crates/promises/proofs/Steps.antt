@@ -1,6 +1,6 @@
--- What a read answers and what a step leaves of the memory.
+-- What a read answers, what a step leaves of the memory, and what a read cycle takes from it.
 use Prim.Native.Nat.{ℕ, _/_, _<_}
-use mathlib.Core.Path.{_≡_, refl, _∙_}
+use mathlib.Core.Path.{_≡_, refl, ap, _∙_}
 use mathlib.Core.Bool.{Bool, true, false, not, _&&_, _||_}
 use mathlib.Core.List.{List}
 use lib.Dec.{eqb}
@@ -8,15 +8,15 @@ use lib.ListN.{length, getD, set}
 use lib.Seq.{getD-set-same}
 use borrow.Author.Tests.{eqb-true, ltb-true, not-false}
 use Rattle.machine.specs.Words.{bit, merged}
-use Rattle.machine.specs.Sides.{Side, addon}
+use Rattle.machine.specs.Sides.{Side, pci, addon}
 use Rattle.machine.specs.State.{State, lane}
 use Rattle.machine.specs.Access.{Access, accessOf, kindOf, cycles}
 use Rattle.machine.specs.Fifos.{front}
 use Rattle.machine.specs.Window.{placeOf, inside}
-use Rattle.machine.specs.Cycles.{lowEnables, stored}
+use Rattle.machine.specs.Cycles.{lowEnables, cycleWord, stored}
 use Rattle.machine.specs.Code.{codeOf, tests, isNoMemory}
 use Rattle.machine.specs.Step.{register, readValue, doneReply, replyOf, answered, memoryAfter, respond, stepOf}
-use Rattle.promises.specs.Readings.{ReadAnswers, Stores, MemoryRule}
+use Rattle.promises.specs.Readings.{ReadAnswers, Stores, MemoryRule, ReadCycleWord}
 use Rattle.machine.specs.declared.Step.{Step}
 use Rattle.promises.proofs.Tests.{none-applies, neither, and-left, and-right, and-at}
 use Rattle.promises.proofs.Numbers.{named}
@@ -75,3 +75,13 @@ memory-rule st start memory s =
           (stores st start memory
           (place-inside addon st start (length memory) x (eqb-true code 0 (and-left (eqb code 0) (eqb (s .kind) 4) e)) (c ∙ and-right (eqb code 0) (eqb (s .kind) 4) e))),
     )
+
+pub read-cycle-word : ReadCycleWord
+unfolding stepOf respond answered replyOf doneReply cycleWord
+read-cycle-word st start memory s e r =
+    let five = eqb-true (s .kind) 5 r in
+    let word : stepOf st start memory s .answer .value ≡ cycleWord pci st start memory = rw (e, five) in
+    record {
+      inside = place-inside pci st start (length memory) (accessOf s) e (named (s .kind) .readCycle ∙ r);
+      bytes = λ k h. ap (λ (w : ℕ). bit w k) word ∙ rw (bit-shown k h, low-enables);
+    }

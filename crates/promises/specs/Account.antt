@@ -1,6 +1,6 @@
--- Demand 3: what its three accounts count. Everything here goes by the numbers of steps and answers alone;
+-- Demand 3: what its three accounts count, and what a mailbox byte holds. Everything here goes by the numbers of steps and answers alone;
 -- no rule of the machine and no part of its state is used.
-use Prim.Native.Nat.{ℕ, _*_, _/_, _%_}
+use Prim.Native.Nat.{ℕ, _*_, _/_, _%_, _^_}
 use mathlib.Core.Path.{_≡_}
 use mathlib.Core.Bool.{Bool, true, false, cond, _&&_, _||_}
 use mathlib.Core.List.{List, [], _∷_, _++_}
@@ -80,11 +80,11 @@ abbrev pub otherReads : ℕ → Event → Bool
 otherReads k e = isKind (cond (ltb k 16) 2 0) e && toByte k e
 
 -- a reset, or a mailbox clear by MCSR bit 27
-abbrev pub clearsByte : ℕ → Event → Bool
-clearsByte k e = isKind 6 e || command 1 27 e
+abbrev pub clearsBytes : Event → Bool
+clearsBytes e = isKind 6 e || command 1 27 e
 
 abbrev pub touch : ℕ → Event → Touch
-touch k e = cond (isDone e) (cond (clearsByte k e) clear (cond (ownerWrites k e) write (cond (otherReads k e) read none))) none
+touch k e = cond (isDone e) (cond (clearsBytes e) clear (cond (ownerWrites k e) write (cond (otherReads k e) read none))) none
 
 -- the later of two, if it is any
 abbrev pub later : Touch → Touch → Touch
@@ -103,6 +103,24 @@ wasWrite write = true
 wasWrite read = false
 wasWrite clear = false
 wasWrite none = false
+
+-- ---- what the mailbox bytes hold
+
+-- byte i of a word
+abbrev pub byteOf : ℕ → ℕ → ℕ
+byteOf i word = word / 2 ^ (8 * i) % 2 ^ 8
+
+-- mailbox byte k after an event: a done reset makes it zero, its owner's done write stores that byte of its data, nothing else changes it
+abbrev pub byteAfter : ℕ → ℕ → Event → ℕ
+byteAfter k old e = cond (isDone e) (cond (isKind 6 e) 0 (cond (ownerWrites k e) (byteOf (k % 4) (e .step .value)) old)) old
+
+abbrev pub byteFrom : ℕ → ℕ → List Event → ℕ
+byteFrom k old [] = old
+byteFrom k old (e ∷ es) = byteFrom k (byteAfter k old e) es
+
+-- the byte last stored since the last reset, zero if there is none
+abbrev pub lastStored : ℕ → List Event → ℕ
+lastStored k es = byteFrom k 0 es
 
 -- ---- two runs
 

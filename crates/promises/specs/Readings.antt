@@ -1,5 +1,5 @@
 -- Sentences of document 01 about bits and bytes, stated bit by bit of the rules that go by masks.
-use Prim.Native.Nat.{ℕ, _+_, _*_, _/_, _%_, _^_, _≤_, _<_, min}
+use Prim.Native.Nat.{ℕ, _+_, _-_, _*_, _/_, _%_, _^_, _≤_, _<_, min}
 use mathlib.Core.Path.{_≡_}
 use mathlib.Core.Bool.{Bool, true, false, cond, not, _&&_, _||_}
 use mathlib.Core.List.{List}
@@ -7,7 +7,7 @@ use lib.Dec.{eqb, leb, ltb}
 use lib.ListN.{length, getD, set}
 use Rattle.machine.specs.Words.{bit, shown, merged, written}
 use Rattle.machine.specs.Sides.{pci, addon}
-use Rattle.machine.specs.State.{State}
+use Rattle.machine.specs.State.{State, resetState}
 use Rattle.machine.specs.Access.{Access, accessOf, isRead, isWrite, cycles}
 use Rattle.machine.specs.Fifos.{front}
 use Rattle.machine.specs.Window.{placeOf}
@@ -103,6 +103,53 @@ MemoryRule =
     → (let o = stepOf st start memory s in
     let cycle = eqb (o .answer .code) 0 && eqb (s .kind) 4 in
     (cycle ≡ false → o .memory ≡ memory) × (cycle ≡ true → Stores st start memory (o .memory)))
+
+-- what a done read cycle answers, and so by `fifo-account` lets in: the memory word at the place of its address, bytes n and up made zero (house)
+pub record Loads (st : State) (start : ℕ) (memory : List ℕ) (word : ℕ) : Type 0 where
+  pub inside : placeOf start (st .fromPci .address) < length memory
+  pub bytes :
+      (k : ℕ) → k < 32
+      → bit word k ≡ (bit (getD memory (placeOf start (st .fromPci .address)) 0) k && ltb (k / 8) (min 4 (st .fromPci .count)))
+
+-- `read-cycle-word`: of every done read cycle
+abbrev pub ReadCycleWord : Type 0
+ReadCycleWord =
+    (st : State) (start : ℕ) (memory : List ℕ) (s : Step)
+    → (let o = stepOf st start memory s in o .answer .code ≡ 0 → eqb (s .kind) 5 ≡ true → Loads st start memory (o .answer .value))
+
+-- `reset-rule`: a done chip reset leaves zeros and empty FIFOs, host memory as it was, and answers zeros
+abbrev pub ResetRule : Type 0
+ResetRule =
+    (st : State) (start : ℕ) (memory : List ℕ) (s : Step)
+    → (let o = stepOf st start memory s in
+    o .answer .code ≡ 0 → eqb (s .kind) 6 ≡ true
+    → o ≡ record { state = resetState; memory = memory; answer = record { code = 0; address = 0; value = 0; enables = 0; line = false } })
+
+-- a register that keeps some bits and is written by PCI at an offset: what such a write leaves, or else `rest`
+abbrev pub unlessWritten : ℕ → ℕ → Step → ℕ → ℕ → ℕ
+unlessWritten at keeps s old rest = cond (eqb (s .kind) 1 && eqb (s .offset) at) (written keeps old (s .value) (s .enables)) rest
+
+-- an address and a count register by their offset and the kind of their cycle, which adds 4 to the one (FFFFFFFC is followed by 0), and subtracts n from the other
+abbrev pub addressThen : ℕ → ℕ → Step → ℕ → ℕ
+addressThen at kind s old = unlessWritten at addressKept s old (cond (eqb (s .kind) kind) ((old + 4) % 2 ^ 32) old)
+
+abbrev pub countThen : ℕ → ℕ → Step → ℕ → ℕ
+countThen at kind s old = unlessWritten at countKept s old (cond (eqb (s .kind) kind) (old - min 4 old) old)
+
+-- `register-rule`: after a done step that is no reset, the addresses, the counts, MCSR and bits 15 to 0 of INTCSR are as they were,
+-- but for a PCI write of that register and, of an address or a count, its cycle
+pub record RegistersThen (s : Step) (st after : State) : Type 0 where
+  pub writeAddress : after .fromAddon .address ≡ addressThen 0x24 4 s (st .fromAddon .address)
+  pub writeCount : after .fromAddon .count ≡ countThen 0x28 4 s (st .fromAddon .count)
+  pub readAddress : after .fromPci .address ≡ addressThen 0x2C 5 s (st .fromPci .address)
+  pub readCount : after .fromPci .count ≡ countThen 0x30 5 s (st .fromPci .count)
+  pub mcsr : after .mcsr ≡ unlessWritten 0x3C mcsrKept s (st .mcsr) (st .mcsr)
+  pub intcsr : (k : ℕ) → k < 16 → bit (after .intcsr) k ≡ bit (unlessWritten 0x38 intcsrKept s (st .intcsr) (st .intcsr)) k
+
+abbrev pub RegisterRule : Type 0
+RegisterRule =
+    (st : State) (start : ℕ) (memory : List ℕ) (s : Step)
+    → (let o = stepOf st start memory s in o .answer .code ≡ 0 → eqb (s .kind) 6 ≡ false → RegistersThen s st (o .state))
 
 -- a one is written to bit k of INTCSR, its byte enabled
 abbrev pub acknowledges : ℕ → Access → Bool

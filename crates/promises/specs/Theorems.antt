@@ -1,10 +1,10 @@
 -- What is proved of the machine: a statement for each promise. The proofs are in proofs/, each under the name that stands beside its statement.
-use Prim.Native.Nat.{ℕ, _≤_, _<_}
+use Prim.Native.Nat.{ℕ, _/_, _%_, _≤_, _<_}
 use mathlib.Core.Path.{_≡_}
-use mathlib.Core.Bool.{Bool, true, false, cond, _||_}
+use mathlib.Core.Bool.{Bool, true, false, cond, not, _&&_, _||_}
 use mathlib.Core.List.{List, [], _∷_, _++_, map}
 use lib.Dec.{eqb}
-use lib.ListN.{length}
+use lib.ListN.{length, getD}
 use Rattle.machine.specs.Words.{bit}
 use Rattle.machine.specs.Sides.{Side}
 use Rattle.machine.specs.State.{State, held, resetState}
@@ -14,7 +14,7 @@ use Rattle.machine.specs.Code.{tests, isOutOfForm}
 use Rattle.machine.specs.Step.{stepOf, notAFrame}
 use Rattle.machine.specs.Event.{Event, answers}
 use Rattle.machine.specs.Run.{Rule, runOf, run}
-use Rattle.promises.specs.Account.{tally, latest, wasWrite, AllAlike, Every, NoClear, Agreed}
+use Rattle.promises.specs.Account.{tally, latest, wasWrite, byteOf, lastStored, AllAlike, Every, NoClear, Agreed}
 use Rattle.machine.specs.declared.Step.{Step}
 use Rattle.machine.specs.declared.Answer.{Answer}
 
@@ -61,6 +61,12 @@ Aborted =
     → AbortOnly st (o .state)
     × ((o .memory ≡ memory) × (o .answer ≡ record { code = 13; address = cycleAddress st s; value = 0; enables = 0; line = true })))
 
+-- `only-aborts`: a step sets INTCSR bit 20, which was clear, exactly if it answers 13
+abbrev pub OnlyAborts : Type 0
+OnlyAborts =
+    (st : State) (start : ℕ) (memory : List ℕ) (s : Step)
+    → (let o = stepOf st start memory s in (not (bit (st .intcsr) 20) && bit (o .state .intcsr) 20) ≡ eqb (o .answer .code) 13)
+
 -- the test of a code in a list of tests
 abbrev pub testOf : ℕ → List (ℕ × Bool) → Bool
 testOf code [] = false
@@ -94,7 +100,7 @@ abbrev pub NeverOutOfForm : Type 0
 NeverOutOfForm =
     (start : ℕ) (memory : List ℕ) (steps : List Step) → Every (λ (e : Event). eqb (e .answer .code) 1 ≡ false) (run resetState start memory steps .events)
 
--- ---- demand 3: from reset, for any list of steps, any start and any memory
+-- ---- demand 3, and what the mailbox bytes hold: from reset, for any list of steps, any start and any memory
 
 -- `fifo-account`: of each FIFO, the words let in since it was last emptied are the words handed out since, then the words still held, in order
 -- (a read cycle's word is the one that it answers); said of any rule for one step, so that it can be asked of worthless ones too
@@ -112,6 +118,13 @@ abbrev pub MailAccount : Type 0
 MailAccount =
     (k : ℕ) → k < 32 → (start : ℕ) (memory : List ℕ) (steps : List Step)
     → (let r = run resetState start memory steps in bit (r .state .marks) k ≡ wasWrite (latest k (r .events)))
+
+-- `mail-bytes`: byte k % 4 of mailbox word k / 4 is that byte of the data of the latest of its owner's writes with that byte enabled, done since the last
+-- done reset, and zero if there is none. So what `read-answers` says of a mailbox is "the byte last stored", of an empty byte too
+abbrev pub MailBytes : Type 0
+MailBytes =
+    (k : ℕ) → k < 32 → (start : ℕ) (memory : List ℕ) (steps : List Step)
+    → (let r = run resetState start memory steps in byteOf (k % 4) (getD (r .state .mail) (k / 4) 0) ≡ lastStored k (r .events))
 
 -- `two-runs-since`: two runs that differ at most in the data of FIFO port writes, with the same answers and the same words left in a FIFO,
 -- let the same words into it since its last clear or reset
