@@ -29,6 +29,10 @@ OneLineEach = (answers : List Answer) → lines (logOf answers) ≡ map logBody 
 
 -- ---- texts joined, and a text in pieces
 
+-- `log-append`: the log of answers joined is their logs joined
+abbrev pub LogAppend : Type 0
+LogAppend = (xs ys : List Answer) → logOf (xs ++ ys) ≡ logOf xs ++ logOf ys
+
 -- `texts-joined`: the log of two texts joined after an LF is that of the first, then that of the second from the state the first leaves
 pub record Joined (whole first second : Told) : Type 0 where
   pub state : whole .state ≡ second .state
@@ -52,7 +56,7 @@ piecesTold st start memory begun (p ∷ more) =
     let f = fedOf st start memory begun p in
     after (f .answers) (piecesTold (f .state) start (f .memory) (f .begun) more)
 
--- `pieces-joined`: wherever the pieces end, they tell what the whole text tells, so their logs joined are its log
+-- `pieces-joined`: wherever the pieces end, they tell what the whole text tells, so by `log-append` their logs joined are its log
 abbrev pub PiecesJoined : Type 0
 PiecesJoined = (st : State) (start : ℕ) (memory : List ℕ) (pieces : List (List ℕ)) → piecesTold st start memory [] pieces ≡ textTold st start memory (joined pieces)
 
