@@ -1,23 +1,42 @@
 -- What the tests of the code need of the machine's.
-use Prim.Native.Nat.{ℕ, zero, suc}
+use Prim.Native.Nat.{ℕ, zero, suc, _<_}
 use mathlib.Core.Path.{_≡_, refl}
-use mathlib.Core.Bool.{Bool, true, false, cond, not}
+use mathlib.Core.Bool.{Bool, true, false, cond, not, and-false, false≢true}
 use native.Mathlib.Omega.{arith}
-use lib.Dec.{ltb}
-use borrow.Author.Tests.{le-ltb}
+use borrow.Author.Tests.{ne-eqb}
 use Rattle.machine.specs.Sides.{host, card, sameParty}
-use Rattle.machine.specs.Access.{kindOf, isAccess}
+use Rattle.machine.specs.State.{State}
+use Rattle.machine.specs.Access.{Access, Kind, reading, writing, cycle, chipReset, unknown, kindOf, isAccess}
+use Rattle.machine.specs.Code.{isReadOnlyWrite, isFullOrEmpty, isTransferOff, isCountZero, isAbortStanding, isNotReady, isNoMemory, cycleTests, firstOf}
 
 -- the kinds below 4 are the reads and writes
-pub access-below : (k : ℕ) → ltb k 4 ≡ isAccess (kindOf k)
-access-below zero = refl
-access-below (suc zero) = refl
-access-below (suc (suc zero)) = refl
-access-below (suc (suc (suc zero))) = refl
-access-below (suc (suc (suc (suc zero)))) = refl
-access-below (suc (suc (suc (suc (suc zero))))) = refl
-access-below (suc (suc (suc (suc (suc (suc zero)))))) = refl
-access-below (suc (suc (suc (suc (suc (suc (suc n))))))) = le-ltb (suc (suc (suc (suc (suc (suc (suc n))))))) 4 (omega arith)
+pub access : (k : ℕ) → k < 4 → isAccess (kindOf k) ≡ true
+access zero h = refl
+access (suc zero) h = refl
+access (suc (suc zero)) h = refl
+access (suc (suc (suc zero))) h = refl
+access (suc (suc (suc (suc n)))) h = absurd (omega arith)
+
+-- no code of cycles applies to them
+pub no-cycle : (st : State) (start words : ℕ) (x : Access) → isAccess (x .kind) ≡ true → firstOf (cycleTests st start words x) ≡ 0
+unfolding isTransferOff isCountZero isAbortStanding isNotReady isNoMemory
+no-cycle st start words x h = none (x .kind) h
+  where
+    none : (k : Kind) → isAccess k ≡ true → firstOf (cycleTests st start words (record { kind = k; offset = x .offset; enables = x .enables; value = x .value })) ≡ 0
+    none (reading by) h = refl
+    none (writing by) h = refl
+    none (cycle side) h = absurd (false≢true h)
+    none chipReset h = absurd (false≢true h)
+    none unknown h = absurd (false≢true h)
+
+-- the FIFO port is not read-only, and at no other offset is a FIFO full or empty
+pub at-port : (x : Access) → x .offset ≡ 0x20 → isReadOnlyWrite x ≡ false
+unfolding isReadOnlyWrite
+at-port x h = rw h (simp and-false)
+
+pub elsewhere : (st : State) (x : Access) → (x .offset ≡ 0x20 → ⊥) → isFullOrEmpty st x ≡ false
+unfolding isFullOrEmpty
+elsewhere st x h = simp (ne-eqb _ _ h, and-false)
 
 -- who owns a mailbox
 pub owned-by-host : (b : Bool) → sameParty (cond b host card) host ≡ b

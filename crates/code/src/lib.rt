@@ -1,13 +1,15 @@
 // The code of a step: the lowest that applies.
 ghost use mathlib.Core.Path.{_≡_};
+ghost use Prim.Native.Nat.{_<_};
 ghost use mathlib.Core.Bool.{cond};
 ghost use Rattle.machine.specs.Sides.{pci, addon};
-ghost use Rattle.machine.specs.Access.{accessOf, kindOf, isAccess};
+ghost use Rattle.machine.specs.Access.{accessOf};
 ghost use Rattle.machine.specs.Offsets.{inTable, isReadOnly};
 ghost use Rattle.machine.specs.Window.{inside, isWindowOutOfForm};
 ghost use Rattle.machine.specs.Cycles.{isReady};
-ghost use Rattle.machine.specs.Code.{anyOf, laneFaults, isOutOfForm, isUnknownOffset, hasBadEnables, isPartFifoAccess, isReadOnlyWrite, isFullOrEmpty, isTransferOff, isCountZero, isAbortStanding, isNotReady, isNoMemory, cycleTests, firstOf, codeOf};
+ghost use Rattle.machine.specs.Code.{anyOf, laneFaults, isOutOfForm, isUnknownOffset, isReadOnlyWrite, isFullOrEmpty, codeOf};
 ghost use Rattle.controller.specs.Controller.{laneOf, stateOf};
+ghost use Rattle.code.specs.Parts.{accessCode, cycleCode};
 use controller::Controller;
 use controller::Lane;
 use fifo::WordFill;
@@ -67,27 +69,6 @@ fn is_unknown_offset(s: Step) -> bool
     pci & !is_in_pci_table(s.offset) | addon & !is_in_addon_table(s.offset)
 }
 
-// Whether the step is a read or a write.
-fn is_access(kind: u32) -> bool
-    ensures { λ r. ⌜ r ≡ isAccess (kindOf kind) ⌝ }
-{
-    kind < kinds::WRITE_CYCLE
-}
-
-// Code 5, bad enables.
-fn has_bad_enables(s: Step) -> bool
-    ensures { λ r. ⌜ r ≡ hasBadEnables (accessOf s) ⌝ }
-{
-    is_access(s.kind) & (ALL_ENABLES < s.enables)
-}
-
-// Code 6, part FIFO access.
-fn is_part_fifo_access(s: Step) -> bool
-    ensures { λ r. ⌜ r ≡ isPartFifoAccess (accessOf s) ⌝ }
-{
-    is_access(s.kind) & (s.offset == offsets::FIFO_PORT) & (s.enables != ALL_ENABLES)
-}
-
 fn is_read_only_to_pci(offset: u32) -> bool
     ensures { λ r. ⌜ r ≡ isReadOnly pci offset ⌝ }
 {
@@ -121,31 +102,6 @@ fn is_full_or_empty(c: Controller, s: Step) -> bool
             | (s.kind == kinds::PCI_READ) & port & fifo::is_empty(from_addon))
 }
 
-// Code 9, transfer off.
-fn is_transfer_off(c: Controller, s: Step) -> bool
-    ensures { λ r. ⌜ r ≡ isTransferOff (stateOf c) (accessOf s) ⌝ }
-{
-    let read = word::bit(c.mcsr, mcsr::READ_ENABLE);
-    let write = word::bit(c.mcsr, mcsr::WRITE_ENABLE);
-    (s.kind == kinds::READ_CYCLE) & !read | (s.kind == kinds::WRITE_CYCLE) & !write
-}
-
-// Code 10, count is zero.
-fn is_count_zero(c: Controller, s: Step) -> bool
-    ensures { λ r. ⌜ r ≡ isCountZero (stateOf c) (accessOf s) ⌝ }
-{
-    (s.kind == kinds::READ_CYCLE) & (c.from_pci.count.0 == 0)
-        | (s.kind == kinds::WRITE_CYCLE) & (c.from_addon.count.0 == 0)
-}
-
-// Code 11, abort stands.
-fn is_abort_standing(c: Controller, s: Step) -> bool
-    ensures { λ r. ⌜ r ≡ isAbortStanding (stateOf c) (accessOf s) ⌝ }
-{
-    let stands = intcsr::is_abort_in(c.intcsr);
-    (s.kind == kinds::READ_CYCLE) & stands | (s.kind == kinds::WRITE_CYCLE) & stands
-}
-
 // The words, or the room for words, that a cycle needs.
 fn needed(four: bool) -> WordFill
     ensures { λ r. ⌜ r .0 ≡ cond four 4 1 ⌝ }
@@ -173,14 +129,6 @@ fn is_write_ready(c: Controller) -> bool
     need.0 <= fifo::fill(c.from_addon.fifo).0
 }
 
-// Code 12, FIFO not ready.
-fn is_not_ready(c: Controller, s: Step) -> bool
-    ensures { λ r. ⌜ r ≡ isNotReady (stateOf c) (accessOf s) ⌝ }
-{
-    (s.kind == kinds::READ_CYCLE) & !is_read_ready(c)
-        | (s.kind == kinds::WRITE_CYCLE) & !is_write_ready(c)
-}
-
 // Whether an address belongs to a memory of so many words.
 fn is_inside(start: u32, words: usize, address: u32) -> bool
     ensures { λ r. ⌜ r ≡ inside start words address ⌝ }
@@ -188,52 +136,97 @@ fn is_inside(start: u32, words: usize, address: u32) -> bool
     (address::place(start, address) as usize) < words
 }
 
-// Code 13, no memory there.
-fn is_no_memory(c: Controller, start: u32, words: usize, s: Step) -> bool
-    ensures { λ r. ⌜ r ≡ isNoMemory (stateOf c) start words (accessOf s) ⌝ }
+// Codes 4 to 8, or done, of a read or a write: 6 and 8 are of the FIFO port alone, 7 is of others.
+fn access_code(c: Controller, s: Step) -> u32
+    requires { ⌜ s .kind < 4 ⌝ }
+    ensures { λ r. ⌜ r ≡ accessCode (stateOf c) (accessOf s) ⌝ }
 {
-    let read = is_inside(start, words, c.from_pci.address);
-    let write = is_inside(start, words, c.from_addon.address);
-    (s.kind == kinds::READ_CYCLE) & !read | (s.kind == kinds::WRITE_CYCLE) & !write
+    if is_unknown_offset(s) {
+        return codes::UNKNOWN_OFFSET;
+    }
+    if ALL_ENABLES < s.enables {
+        return codes::BAD_ENABLES;
+    }
+    if s.offset != offsets::FIFO_PORT {
+        if is_read_only_write(s) {
+            return codes::READ_ONLY_REGISTER;
+        }
+        return codes::DONE;
+    }
+    if s.enables != ALL_ENABLES {
+        return codes::PART_FIFO_ACCESS;
+    }
+    if is_full_or_empty(c, s) {
+        return codes::FIFO_FULL_OR_EMPTY;
+    }
+    codes::DONE
 }
 
-// The code where its test holds, otherwise the rest.
-fn first(on: bool, code: u32, rest: u32) -> u32
-    ensures { λ r. ⌜ r ≡ cond on code rest ⌝ }
+// Codes 9 to 13, or done, of a write cycle.
+fn write_cycle_code(c: Controller, start: u32, words: usize) -> u32
+    ensures { λ r. ⌜ r ≡ cycleCode addon (stateOf c) start words ⌝ }
 {
-    if on { code } else { rest }
+    if !word::bit(c.mcsr, mcsr::WRITE_ENABLE) {
+        return codes::TRANSFER_OFF;
+    }
+    if c.from_addon.count.0 == 0 {
+        return codes::COUNT_IS_ZERO;
+    }
+    if intcsr::is_abort_in(c.intcsr) {
+        return codes::ABORT_STANDS;
+    }
+    if !is_write_ready(c) {
+        return codes::FIFO_NOT_READY;
+    }
+    if !is_inside(start, words, c.from_addon.address) {
+        return codes::NO_MEMORY_THERE;
+    }
+    codes::DONE
 }
 
-// Codes 9 to 13, or done.
-fn cycle_code(c: Controller, start: u32, words: usize, s: Step) -> u32
-    ensures { λ r. ⌜ r ≡ firstOf (cycleTests (stateOf c) start words (accessOf s)) ⌝ }
+// Codes 9 to 13, or done, of a read cycle.
+fn read_cycle_code(c: Controller, start: u32, words: usize) -> u32
+    ensures { λ r. ⌜ r ≡ cycleCode pci (stateOf c) start words ⌝ }
 {
-    let memory = first(
-        is_no_memory(c, start, words, s),
-        codes::NO_MEMORY_THERE,
-        codes::DONE,
-    );
-    let ready = first(is_not_ready(c, s), codes::FIFO_NOT_READY, memory);
-    let abort = first(is_abort_standing(c, s), codes::ABORT_STANDS, ready);
-    let count = first(is_count_zero(c, s), codes::COUNT_IS_ZERO, abort);
-    first(is_transfer_off(c, s), codes::TRANSFER_OFF, count)
+    if !word::bit(c.mcsr, mcsr::READ_ENABLE) {
+        return codes::TRANSFER_OFF;
+    }
+    if c.from_pci.count.0 == 0 {
+        return codes::COUNT_IS_ZERO;
+    }
+    if intcsr::is_abort_in(c.intcsr) {
+        return codes::ABORT_STANDS;
+    }
+    if !is_read_ready(c) {
+        return codes::FIFO_NOT_READY;
+    }
+    if !is_inside(start, words, c.from_pci.address) {
+        return codes::NO_MEMORY_THERE;
+    }
+    codes::DONE
 }
 
 // The lowest code that applies, or done.
 pub fn code(c: Controller, start: u32, words: usize, s: Step) -> u32
     ensures { λ r. ⌜ r ≡ codeOf (stateOf c) start words (accessOf s) ⌝ }
 {
-    let cycle = cycle_code(c, start, words, s);
-    let full = first(is_full_or_empty(c, s), codes::FIFO_FULL_OR_EMPTY, cycle);
-    let fixed = first(is_read_only_write(s), codes::READ_ONLY_REGISTER, full);
-    let part = first(is_part_fifo_access(s), codes::PART_FIFO_ACCESS, fixed);
-    let enables = first(has_bad_enables(s), codes::BAD_ENABLES, part);
-    let offset = first(is_unknown_offset(s), codes::UNKNOWN_OFFSET, enables);
-    let kind = first(kinds::CHIP_RESET < s.kind, codes::UNKNOWN_STEP, offset);
-    let window = first(
-        is_window_out_of_form(start, words),
-        codes::WINDOW_OUT_OF_FORM,
-        kind,
-    );
-    first(is_out_of_form(c), codes::STATE_OUT_OF_FORM, window)
+    if is_out_of_form(c) {
+        return codes::STATE_OUT_OF_FORM;
+    }
+    if is_window_out_of_form(start, words) {
+        return codes::WINDOW_OUT_OF_FORM;
+    }
+    if s.kind < kinds::WRITE_CYCLE {
+        return access_code(c, s);
+    }
+    if s.kind == kinds::WRITE_CYCLE {
+        return write_cycle_code(c, start, words);
+    }
+    if s.kind == kinds::READ_CYCLE {
+        return read_cycle_code(c, start, words);
+    }
+    if kinds::CHIP_RESET < s.kind {
+        return codes::UNKNOWN_STEP;
+    }
+    codes::DONE
 }

@@ -25,7 +25,9 @@ const WRITE_COUNT_ENABLE: u32 = 14;
 
 const READ_COUNT_ENABLE: u32 = 15;
 
-// The flags.
+// The flags, and the word with the lowest one: every word below it has none.
+const LOWEST_FLAG: u32 = 0x0001_0000;
+
 const OUTGOING_FLAG: u32 = 16;
 
 const INCOMING_FLAG: u32 = 17;
@@ -106,6 +108,9 @@ pub fn aborted(i: u32) -> u32
 pub fn line(i: u32) -> bool
     ensures { λ r. ⌜ r ≡ lineOf i ⌝ }
 {
+    if i < LOWEST_FLAG {
+        return false;
+    }
     word::bit(i, OUTGOING_FLAG) & word::bit(i, OUTGOING_ENABLE)
         | word::bit(i, INCOMING_FLAG) & word::bit(i, INCOMING_ENABLE)
         | word::bit(i, WRITE_COUNT_FLAG) & word::bit(i, WRITE_COUNT_ENABLE)

@@ -4,15 +4,15 @@
 --     fed-none                        the end of the loop over a piece
 --     push-room, push-full            another byte, with room for it and without
 --     answers-few                     no more answers than bytes
-use Prim.Native.Nat.{ℕ, suc, _+_, _≤_, _<_, min, zero-le}
+use Prim.Native.Nat.{ℕ, _+_, _≤_, _<_, min, zero-le}
 use mathlib.Core.Path.{_≡_, sym, _∙_}
-use mathlib.Core.List.{List, [], _∷_, _++_, append-assoc, append-nil}
+use mathlib.Core.List.{List, [], _∷_, _++_, append-nil}
 use native.Mathlib.Numerals.{add-one}
 use native.Mathlib.Omega.{arith}
 use native.Mathlib.Decide.{decLe, ℕ-discrete}
 use borrow.Author.Tests.{eq-eqb, ne-eqb}
-use lib.ListN.{length, getD, take, drop, set, length-append, drop-of-length-le, length-map}
-use lib.Seq.{drop-cons, take-suc-set, take-all, take-append-le, length-take-le}
+use lib.ListN.{length, take, drop, set, length-append, drop-of-length-le, length-map}
+use lib.Seq.{take-suc-set, take-all, take-append-le, length-take-le}
 use mir.Val.{Val}
 use denote.Laws.{Is}
 use denote.Struct.Declared.{row}
@@ -22,7 +22,7 @@ use Rattle.machine.specs.declared.Answer.{Answer}
 use Rattle.log.specs.declared.Stream.{Stream}
 use Rattle.log.proofs.Stream.{the-type}
 use Rattle.log.proofs.Stream.Laws.{the-laws}
-use Rattle.log.specs.Log.{lineOutcome, toldOf, Fed, answering, fedOf}
+use Rattle.log.specs.Log.{lineOutcome, Fed, answering, fedOf}
 
 -- `bytes` is field 1
 pub bytes-length : (s : Stream) {vs : List Val} → Is (row the-type) s vs → length (s .bytes) ≡ 14

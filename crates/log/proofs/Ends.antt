@@ -1,7 +1,7 @@
 -- A text is fed as one piece; then its end ends a line that isn't empty, as an LF does.
 use Prim.Native.Nat.{ℕ, _+_, _<_}
 use mathlib.Core.Path.{_≡_, sym, ap, _∙_}
-use mathlib.Core.List.{List, [], _∷_, _++_, append-nil}
+use mathlib.Core.List.{List, [], _∷_, append-nil}
 use lib.ListN.{length, length-append}
 use Rattle.machine.specs.State.{State}
 use Rattle.controller.specs.Controller.{stateOf}

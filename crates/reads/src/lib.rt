@@ -1,11 +1,12 @@
 // What a read shows.
 ghost use mathlib.Core.Path.{_≡_};
-ghost use Rattle.machine.specs.Sides.{host, card};
-ghost use Rattle.machine.specs.Access.{accessOf};
-ghost use Rattle.machine.specs.Step.{register, readValue};
+ghost use Rattle.machine.specs.Access.{accessOf, kindOf};
+ghost use Rattle.machine.specs.Step.{register};
 ghost use Rattle.controller.specs.Controller.{stateOf};
+ghost use Rattle.reads.specs.Shown.{shownBy};
 use controller::Controller;
 use machine::Step;
+use machine::kinds;
 use machine::offsets;
 
 // The register at an offset, but for the FIFO port.
@@ -37,22 +38,18 @@ fn register(c: Controller, offset: u32) -> u32
     mcsr::mcsr_read(c)
 }
 
-// What a PCI read shows: at the port the front word of the FIFO from the Add-On.
-pub fn pci_value(c: Controller, s: Step) -> u32
-    ensures { λ r. ⌜ r ≡ readValue host (stateOf c) (accessOf s) ⌝ }
+// What a read shows: at the port the front word of the FIFO that the other side feeds. Any other step shows nothing.
+pub fn value(c: Controller, s: Step) -> u32
+    ensures { λ r. ⌜ r ≡ shownBy (kindOf (s .kind)) (stateOf c) (accessOf s) ⌝ }
 {
-    if s.offset == offsets::FIFO_PORT {
+    if (s.kind != kinds::PCI_READ) & (s.kind != kinds::ADDON_READ) {
+        return 0;
+    }
+    if s.offset != offsets::FIFO_PORT {
+        return word::shown(register(c, s.offset), s.enables);
+    }
+    if s.kind == kinds::PCI_READ {
         return fifo::front(c.from_addon.fifo);
     }
-    word::shown(register(c, s.offset), s.enables)
-}
-
-// What an Add-On read shows: at the port the front word of the FIFO from PCI.
-pub fn addon_value(c: Controller, s: Step) -> u32
-    ensures { λ r. ⌜ r ≡ readValue card (stateOf c) (accessOf s) ⌝ }
-{
-    if s.offset == offsets::FIFO_PORT {
-        return fifo::front(c.from_pci.fifo);
-    }
-    word::shown(register(c, s.offset), s.enables)
+    fifo::front(c.from_pci.fifo)
 }

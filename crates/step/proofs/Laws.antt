@@ -1,21 +1,19 @@
 -- What the proofs of the step need of the machine's rules.
-use Prim.Native.Nat.{ℕ, zero, suc, _<_, _≤_}
-use mathlib.Core.Path.{_≡_, refl, sym, _∙_}
-use mathlib.Core.Bool.{Bool, true, false, _&&_, _||_}
+use Prim.Native.Nat.{ℕ, zero, suc, _<_}
+use mathlib.Core.Path.{_≡_, refl}
+use mathlib.Core.Bool.{Bool, true, false, _&&_, _||_, true≢false}
 use mathlib.Core.List.{List}
 use lib.ListN.{length}
-use native.Mathlib.Omega.{arith}
-use borrow.Author.Tests.{lt-leb, ltb-false}
+use borrow.Author.Tests.{lt-leb}
 use Rattle.machine.specs.Sides.{Side, other}
 use Rattle.machine.specs.State.{State, held}
-use Rattle.machine.specs.Access.{Access, accessOf, kindOf, reads, writes}
+use Rattle.machine.specs.Access.{Access, kindOf, isReset, reads, writes}
 use Rattle.machine.specs.Offsets.{fifoPort}
 use Rattle.machine.specs.Commands.{clearsFifo}
 use Rattle.machine.specs.Fifos.{isFull, cycleFeeds, cycleTakes, fifoAfter}
 use Rattle.machine.specs.Code.{codeOf, tests}
-use Rattle.machine.specs.Step.{nothing, doneReply}
-use Rattle.machine.specs.declared.Step.{Step}
-use Rattle.promises.proofs.Numbers.{named}
+use Rattle.machine.specs.Step.{showing, doneReply}
+use Rattle.reads.specs.Shown.{shownBy}
 use Rattle.promises.proofs.Tests.{none-applies}
 use Rattle.promises.proofs.Form.{room-to-write, room-to-read}
 
@@ -42,16 +40,15 @@ module _ (st : State) (start words : ℕ) (x : Access) (e : codeOf st start word
       (λ c. not-full (held side st) (room-to-read side st x (none 12) c))
       (λ w. not-full (held side st) (room-to-write side st x (none 8) w))
 
--- code 0: the kind is known
-pub known-kind : (st : State) (start words : ℕ) (s : Step) → codeOf st start words (accessOf s) ≡ 0 → s .kind ≤ 6
-unfolding codeOf
-known-kind st start words s e = ltb-false 6 (s .kind) (sym (named (s .kind) .unknown) ∙ none-applies (tests st start words (accessOf s)) refl e 3)
-
--- a write shows nothing
-pub write-shows : (k : ℕ) (st : State) (start : ℕ) (memory : List ℕ) (x : Access) → k < 4 → (k ≡ 0 → ⊥) → (k ≡ 2 → ⊥) → doneReply (kindOf k) st start memory x ≡ nothing
-unfolding doneReply
-write-shows zero st start memory x h zero′ two = absurd (zero′ refl)
-write-shows (suc zero) st start memory x h zero′ two = refl
-write-shows (suc (suc zero)) st start memory x h zero′ two = absurd (two refl)
-write-shows (suc (suc (suc zero))) st start memory x h zero′ two = refl
-write-shows (suc (suc (suc (suc n)))) st start memory x h zero′ two = absurd (omega arith)
+-- a done step that is no cycle and no reset shows what a read shows
+pub access-reply : (k : ℕ) (st : State) (start : ℕ) (memory : List ℕ) (x : Access) → (k ≡ 4 → ⊥) → (k ≡ 5 → ⊥) → isReset (kindOf k) ≡ false
+    → showing (shownBy (kindOf k) st x) ≡ doneReply (kindOf k) st start memory x
+unfolding doneReply shownBy
+access-reply zero st start memory x four five r = refl
+access-reply (suc zero) st start memory x four five r = refl
+access-reply (suc (suc zero)) st start memory x four five r = refl
+access-reply (suc (suc (suc zero))) st start memory x four five r = refl
+access-reply (suc (suc (suc (suc zero)))) st start memory x four five r = absurd (four refl)
+access-reply (suc (suc (suc (suc (suc zero))))) st start memory x four five r = absurd (five refl)
+access-reply (suc (suc (suc (suc (suc (suc zero)))))) st start memory x four five r = absurd (true≢false r)
+access-reply (suc (suc (suc (suc (suc (suc (suc k))))))) st start memory x four five r = refl

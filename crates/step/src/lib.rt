@@ -1,18 +1,17 @@
 // One step of the controller, by value, over lent host memory.
 ghost use mathlib.Core.Path.{_≡_};
 ghost use mathlib.Core.Bool.{false, _&&_, _||_};
-ghost use mathlib.Core.List.{List};
-ghost use Prim.Native.Nat.{ℕ, _<_};
+ghost use Prim.Native.Nat.{_<_};
 ghost use lib.ListN.{length};
 ghost use Rattle.machine.specs.Sides.{pci, addon};
 ghost use Rattle.machine.specs.State.{held};
-ghost use Rattle.machine.specs.Access.{accessOf, kindOf, cycles, writes};
+ghost use Rattle.machine.specs.Access.{accessOf, kindOf, isReset, cycles, writes};
 ghost use Rattle.machine.specs.Offsets.{fifoPort};
 ghost use Rattle.machine.specs.Fifos.{isFull, fifoAfter};
 ghost use Rattle.machine.specs.Window.{placeOf};
-ghost use Rattle.machine.specs.Cycles.{laneAfter, stored, cycleWord};
+ghost use Rattle.machine.specs.Cycles.{laneAfter, cycleWord};
 ghost use Rattle.machine.specs.Code.{codeOf};
-ghost use Rattle.machine.specs.Step.{doneReply, abortedReply, answered, doneState, abortedState, respond};
+ghost use Rattle.machine.specs.Step.{doneReply, abortedReply, answered, doneState, abortedState, memoryAfter, respond};
 ghost use Rattle.fifo.specs.Held as ring;
 ghost use Rattle.controller.specs.Controller.{laneOf, stateOf};
 ghost use Rattle.step.specs.Outcome.{outcomeOf};
@@ -169,20 +168,6 @@ fn aborted(c: Controller) -> Controller
     next
 }
 
-// What a read shows; a write shows nothing.
-fn shown(c: Controller, s: Step) -> u32
-    requires { ⌜ s .kind < 4 ⌝ }
-    ensures { λ r. ⌜ ((start : ℕ) (memory : List ℕ) → doneReply (kindOf (s .kind)) (stateOf c) start memory (accessOf s) ≡ record { address = 0; value = r; enables = 0 }) ⌝ }
-{
-    if s.kind == kinds::PCI_READ {
-        return reads::pci_value(c, s);
-    }
-    if s.kind == kinds::ADDON_READ {
-        return reads::addon_value(c, s);
-    }
-    0
-}
-
 // The word that a read cycle lets in.
 fn read_word(c: Controller, memory: &[u32], start: u32) -> u32
     requires { ⌜ placeOf start (stateOf c .fromPci .address) < length (now memory) ⌝ }
@@ -192,44 +177,49 @@ fn read_word(c: Controller, memory: &[u32], start: u32) -> u32
     word::shown(memory[at], count::low_enables(c.from_pci.count))
 }
 
-// The front word's lowest bytes go into the memory word.
-fn store(c: Controller, memory: &mut [u32], start: u32)
-    requires { ⌜ placeOf start (stateOf c .fromAddon .address) < length (now memory) ⌝ }
-    ensures { λ r. ⌜ now (memory .exit) ≡ stored (stateOf c) start (now (memory .entry)) ⌝ }
-{
-    let at = address::place(start, c.from_addon.address) as usize;
-    let word = fifo::front(c.from_addon.fifo);
-    memory[at] = word::merged(memory[at], word, count::low_enables(c.from_addon.count));
+// What a done step that is no reset answers.
+struct Reply {
+    address: u32,
+    value: u32,
+    enables: u32,
 }
 
-// A write cycle that is done.
-fn write_cycle(c: Controller, memory: &mut [u32], start: u32, s: Step) -> Stepped
+fn done_reply(c: Controller, memory: &[u32], start: u32, s: Step) -> Reply
     requires { ⌜ codeOf (stateOf c) start (length (now memory)) (accessOf s) ≡ 0 ⌝ }
-    requires { ⌜ s .kind ≡ 4 ⌝ }
-    ensures { λ r. ⌜ outcomeOf r (now (memory .exit)) ≡ respond (stateOf c) start (now (memory .entry)) (accessOf s) 0 ⌝ }
+    requires { ⌜ isReset (kindOf (s .kind)) ≡ false ⌝ }
+    ensures { λ r. ⌜ record { address = r .address; value = r .value; enables = r .enables } ≡ doneReply (kindOf (s .kind)) (stateOf c) start (now (memory .entry)) (accessOf s) ⌝ }
 {
-    let word = fifo::front(c.from_addon.fifo);
-    let enables = count::low_enables(c.from_addon.count);
-    let next = done_state(c, s, word);
-    store(c, memory, start);
-    answered(next, codes::DONE, c.from_addon.address, word, enables)
+    if s.kind == kinds::WRITE_CYCLE {
+        return Reply {
+            address: c.from_addon.address,
+            value: fifo::front(c.from_addon.fifo),
+            enables: count::low_enables(c.from_addon.count),
+        };
+    }
+    if s.kind == kinds::READ_CYCLE {
+        return Reply {
+            address: c.from_pci.address,
+            value: read_word(c, memory, start),
+            enables: count::low_enables(c.from_pci.count),
+        };
+    }
+    Reply {
+        address: 0,
+        value: reads::value(c, s),
+        enables: 0,
+    }
 }
 
-// A read cycle that is done.
-fn read_cycle(c: Controller, memory: &[u32], start: u32, s: Step) -> Stepped
+// A done write cycle stores the front word's lowest bytes in the memory word.
+fn store(c: Controller, memory: &mut [u32], start: u32, s: Step)
     requires { ⌜ codeOf (stateOf c) start (length (now memory)) (accessOf s) ≡ 0 ⌝ }
-    requires { ⌜ s .kind ≡ 5 ⌝ }
-    ensures { λ r. ⌜ outcomeOf r (now (memory .entry)) ≡ respond (stateOf c) start (now (memory .entry)) (accessOf s) 0 ⌝ }
+    ensures { λ r. ⌜ now (memory .exit) ≡ memoryAfter (stateOf c) start (now (memory .entry)) (accessOf s) 0 ⌝ }
 {
-    let word = read_word(c, memory, start);
-    let enables = count::low_enables(c.from_pci.count);
-    answered(
-        done_state(c, s, word),
-        codes::DONE,
-        c.from_pci.address,
-        word,
-        enables,
-    )
+    if s.kind == kinds::WRITE_CYCLE {
+        let at = address::place(start, c.from_addon.address) as usize;
+        let word = fifo::front(c.from_addon.fifo);
+        memory[at] = word::merged(memory[at], word, count::low_enables(c.from_addon.count));
+    }
 }
 
 // A step that no test refuses.
@@ -237,17 +227,18 @@ fn done(c: Controller, memory: &mut [u32], start: u32, s: Step) -> Stepped
     requires { ⌜ codeOf (stateOf c) start (length (now memory)) (accessOf s) ≡ 0 ⌝ }
     ensures { λ r. ⌜ outcomeOf r (now (memory .exit)) ≡ respond (stateOf c) start (now (memory .entry)) (accessOf s) 0 ⌝ }
 {
-    if s.kind == kinds::WRITE_CYCLE {
-        return write_cycle(c, memory, start, s);
-    }
-    if s.kind == kinds::READ_CYCLE {
-        return read_cycle(c, memory, start, s);
-    }
     if s.kind == kinds::CHIP_RESET {
         return answered(controller::reset(), codes::DONE, 0, 0, 0);
     }
-    let value = shown(c, s);
-    answered(done_state(c, s, value), codes::DONE, 0, value, 0)
+    let r = done_reply(c, memory, start, s);
+    store(c, memory, start, s);
+    answered(
+        done_state(c, s, r.value),
+        codes::DONE,
+        r.address,
+        r.value,
+        r.enables,
+    )
 }
 
 // One step: every controller, memory, start and numbers have an answer, and a refusal leaves the controller as it was.

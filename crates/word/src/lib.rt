@@ -1,7 +1,6 @@
 // 32-bit words: single bits, and the bytes that take part in an access.
 ghost use mathlib.Core.Path.{_≡_};
 ghost use Prim.Native.Nat.{_%_};
-ghost use mathlib.Core.Bool.{cond};
 ghost use Rattle.machine.specs.Words.{bit, mask, cleared, raised, shown, merged, written, only};
 
 // The bits of a word.
@@ -14,21 +13,29 @@ pub fn bit(x: u32, k: u32) -> bool
     if k < BITS { (x >> k) % 2 == 1 } else { false }
 }
 
-// The word `ones` if enable bit i is set, else zero.
-fn byte_mask(enables: u32, i: u32, ones: u32) -> u32
-    ensures { λ r. ⌜ r ≡ cond (bit enables i) ones 0 ⌝ }
-{
-    if bit(enables, i) { ones } else { 0 }
-}
-
 // Ones at the enabled bytes.
 fn mask(enables: u32) -> u32
     ensures { λ r. ⌜ r ≡ mask enables ⌝ }
 {
-    byte_mask(enables, 0, 0x0000_00FF)
-        | byte_mask(enables, 1, 0x0000_FF00)
-        | byte_mask(enables, 2, 0x00FF_0000)
-        | byte_mask(enables, 3, 0xFF00_0000)
+    let low = enables % 16;
+    match low {
+        0 => 0x0000_0000,
+        1 => 0x0000_00FF,
+        2 => 0x0000_FF00,
+        3 => 0x0000_FFFF,
+        4 => 0x00FF_0000,
+        5 => 0x00FF_00FF,
+        6 => 0x00FF_FF00,
+        7 => 0x00FF_FFFF,
+        8 => 0xFF00_0000,
+        9 => 0xFF00_00FF,
+        10 => 0xFF00_FF00,
+        11 => 0xFF00_FFFF,
+        12 => 0xFFFF_0000,
+        13 => 0xFFFF_00FF,
+        14 => 0xFFFF_FF00,
+        _ => 0xFFFF_FFFF,
+    }
 }
 
 // x with zeros where y has ones.

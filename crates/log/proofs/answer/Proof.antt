@@ -7,21 +7,6 @@ use borrow.Author.Needs.{needs}
 use Rattle.log.proofs.answer.Statement.{statement}
 use Rattle.log.proofs.answer.Tie as tie
 
-enum-known-f : tie.Need-enum-known-f
-enum-known-f c = search needs
-
-step-requires : tie.Need-step-requires
-step-requires c κs = search needs
-
-enum-told : tie.Need-enum-told
-enum-told c = search needs
-
-not-a-frame-requires : tie.Need-not-a-frame-requires
-not-a-frame-requires c κs = search needs
-
-same-length : tie.Need-same-length
-same-length c = search needs
-
 returns : tie.Need-returns
 unfolding framedOutcome
 returns c =
@@ -37,12 +22,4 @@ returns-2 c =
 
 pub answer-spec : {M : Type 1} → statement M
 answer-spec =
-    tie.close
-    (tie.spec
-    enum-known-f
-    step-requires
-    enum-told
-    not-a-frame-requires
-    same-length
-    returns
-    returns-2)
+    tie.close (tie.spec (λ c. search needs) (λ c κs. search needs) (λ c. search needs) (λ c κs. search needs) (λ c. search needs) returns returns-2)

@@ -8,15 +8,6 @@ use borrow.Author.Needs.{needs}
 use Rattle.log.proofs.answer_line.Statement.{statement}
 use Rattle.log.proofs.answer_line.Tie as tie
 
-frame-requires : tie.Need-frame-requires
-frame-requires c κs = search needs
-
-answer-requires : tie.Need-answer-requires
-answer-requires c κs = search needs
-
-same-length : tie.Need-same-length
-same-length c = search needs
-
 returns : tie.Need-returns
 unfolding lineOutcome
 returns c =
@@ -25,4 +16,4 @@ returns c =
     b .answer .ensures ∙ ap (λ (f : Framed). framedOutcome f (stateOf (a .c)) (a .start) (now (a .memory))) (b .before .before .frame .ensures)
 
 pub answer-line-spec : {M : Type 1} → statement M
-answer-line-spec = tie.close (tie.spec frame-requires answer-requires same-length returns)
+answer-line-spec = tie.close (tie.spec (λ c κs. search needs) (λ c κs. search needs) (λ c. search needs) returns)

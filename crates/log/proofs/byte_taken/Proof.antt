@@ -11,26 +11,11 @@ use borrow.Author.Needs.{needs}
 use Rattle.log.proofs.byte_taken.Statement.{statement}
 use Rattle.log.proofs.byte_taken.Tie as tie
 
-shared-slice-read-x : tie.Need-shared-slice-read-x
-shared-slice-read-x c = search needs
-
-add-line-taken : tie.Need-add-line-taken
-add-line-taken c = search needs
-
-array-share-prefix-carried : tie.Need-array-share-prefix-carried
-array-share-prefix-carried c = search needs
-
 slice-aggregate-frame : tie.Need-slice-aggregate-frame
 slice-aggregate-frame c =
     let a = c .before .before .before .before .args in
     let n : length (a .t3) ≡ 14 = search needs in
     sym (length-take-le (a .len) (a .t3) (omega (arith, c .before .before .before .before .pre .1)))
-
-frame-requires : tie.Need-frame-requires
-frame-requires c κs = search needs
-
-line-taken-requires : tie.Need-line-taken-requires
-line-taken-requires c κs = search needs
 
 returns : tie.Need-returns
 returns c =
@@ -39,15 +24,6 @@ returns c =
     let a = s .args in
     let whole : length (a .t3) ≡ 14 = search needs in
     rw (c .line-taken .ensures) (lf-takes (now (a .piece)) (a .at) (a .t3) whole (a .len) (s .pre .0) (c .before .frame .result) (i .if1 .taken) (c .before .frame .ensures))
-
-array-write-bytes : tie.Need-array-write-bytes
-array-write-bytes c = search needs
-
-add-more : tie.Need-add-more
-add-more c = search needs
-
-add-t20 : tie.Need-add-t20
-add-t20 c = search needs
 
 returns-2 : tie.Need-returns-2
 returns-2 c =
@@ -64,16 +40,4 @@ returns-2 c =
 
 pub byte-taken-spec : {M : Type 1} → statement M
 byte-taken-spec =
-    tie.close
-    (tie.spec
-    shared-slice-read-x
-    add-line-taken
-    array-share-prefix-carried
-    slice-aggregate-frame
-    frame-requires
-    line-taken-requires
-    returns
-    array-write-bytes
-    add-more
-    add-t20
-    returns-2)
+    tie.close (tie.spec (λ c. search needs) (λ c. search needs) (λ c. search needs) slice-aggregate-frame (λ c κs. search needs) (λ c κs. search needs) returns (λ c. search needs) (λ c. search needs) (λ c. search needs) returns-2)

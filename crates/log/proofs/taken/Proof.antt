@@ -8,24 +8,6 @@ use borrow.Author.Needs.{needs}
 use Rattle.log.proofs.taken.Statement.{statement}
 use Rattle.log.proofs.taken.Tie as tie
 
-byte-taken-requires : tie.Need-byte-taken-requires
-byte-taken-requires c κs = search needs
-
-returns : tie.Need-returns
-returns c = search needs
-
-frame-in-requires : tie.Need-frame-in-requires
-frame-in-requires c κs = search needs
-
-enum-known-s : tie.Need-enum-known-s
-enum-known-s c = search needs
-
-add-line-taken : tie.Need-add-line-taken
-add-line-taken c = search needs
-
-line-taken-requires : tie.Need-line-taken-requires
-line-taken-requires c κs = search needs
-
 returns-2 : tie.Need-returns-2
 returns-2 c =
     let f = c .before .before .before .before in
@@ -39,24 +21,6 @@ returns-2 c =
     rw (c .line-taken .ensures, e .if1 .left, past)
     (line-takes piece (a .at) (a .carried) whole 13 _ (l .until) (omega (arith, l .more, length-drop (a .at) piece)) (sym (l .says)))
 
-enum-told : tie.Need-enum-told
-enum-told c = search needs
-
-line-at-requires : tie.Need-line-at-requires
-line-at-requires c κs = search needs
-
-add-end : tie.Need-add-end
-add-end c = search needs
-
-add-line-taken-2 : tie.Need-add-line-taken-2
-add-line-taken-2 c = search needs
-
-frame-requires : tie.Need-frame-requires
-frame-requires c κs = search needs
-
-line-taken-requires-2 : tie.Need-line-taken-requires-2
-line-taken-requires-2 c κs = search needs
-
 returns-3 : tie.Need-returns-3
 returns-3 c =
     let i = c .before .before in
@@ -69,29 +33,9 @@ returns-3 c =
     rw (c .line-taken2 .ensures, e .if1 .left)
     (part-takes piece (a .at) (a .carried) whole _ _ (g .line-at .ensures .bytes) (omega (arith, s .pre .0)) (i .if2 .taken) (c .before .frame .ensures))
 
-byte-taken-requires-2 : tie.Need-byte-taken-requires-2
-byte-taken-requires-2 c κs = search needs
-
 returns-4 : tie.Need-returns-4
 returns-4 c = search needs
 
 pub taken-spec : {M : Type 1} → statement M
 taken-spec =
-    tie.close
-    (tie.spec
-    byte-taken-requires
-    returns
-    frame-in-requires
-    enum-known-s
-    add-line-taken
-    line-taken-requires
-    returns-2
-    enum-told
-    line-at-requires
-    add-end
-    add-line-taken-2
-    frame-requires
-    line-taken-requires-2
-    returns-3
-    byte-taken-requires-2
-    returns-4)
+    tie.close (tie.spec (λ c κs. search needs) (λ c. search needs) (λ c κs. search needs) (λ c. search needs) (λ c. search needs) (λ c κs. search needs) returns-2 (λ c. search needs) (λ c κs. search needs) (λ c. search needs) (λ c. search needs) (λ c κs. search needs) (λ c κs. search needs) returns-3 (λ c κs. search needs) returns-4)

@@ -1,16 +1,10 @@
-use Prim.Native.Nat.{ℕ, _+_, _≤_, zero-le}
-use mathlib.Core.Path.{_≡_}
-use native.Mathlib.Omega.{arith}
+use Rattle.hex.proofs.Below.{none-below}
 use Rattle.logline.specs.Labels.{labels, labelOf}
 use Rattle.logline.proofs.Labels.{label-past}
 use Rattle.logline.proofs.Stores.{wrote-none}
 use borrow.Author.Needs.{needs}
 use Rattle.logline.proofs.put_label.Statement.{statement}
 use Rattle.logline.proofs.put_label.Tie as tie
-
--- a number that is not k is above it
-up : {n k : ℕ} → k ≤ n → (n ≡ k → ⊥) → k + 1 ≤ n
-up h e = omega arith
 
 returns : tie.Need-returns
 unfolding labels labelOf
@@ -73,10 +67,7 @@ unfolding labels labelOf
 returns-15 c = rw (c .before .before .before .before .before .match .keys15) (c .before .before .put15 .ensures)
 
 returns-16 : tie.Need-returns-16
-returns-16 c =
-    let r = c .match .rest in
-    let n : 15 ≤ c .before .before .args .code = up (up (up (up (up (up (up (up (up (up (up (up (up (up (up zero-le (r .0 .0 .0 .0 .0 .0 .0 .0 .0 .0 .0 .0 .0 .0 .1)) (r .0 .0 .0 .0 .0 .0 .0 .0 .0 .0 .0 .0 .0 .1)) (r .0 .0 .0 .0 .0 .0 .0 .0 .0 .0 .0 .0 .1)) (r .0 .0 .0 .0 .0 .0 .0 .0 .0 .0 .0 .1)) (r .0 .0 .0 .0 .0 .0 .0 .0 .0 .0 .1)) (r .0 .0 .0 .0 .0 .0 .0 .0 .0 .1)) (r .0 .0 .0 .0 .0 .0 .0 .0 .1)) (r .0 .0 .0 .0 .0 .0 .0 .1)) (r .0 .0 .0 .0 .0 .0 .1)) (r .0 .0 .0 .0 .0 .1)) (r .0 .0 .0 .0 .1)) (r .0 .0 .0 .1)) (r .0 .0 .1)) (r .0 .1)) (r .1) in
-    rw (label-past _ n) wrote-none
+returns-16 c = rw (label-past _ (none-below 15 _ (c .match .rest))) wrote-none
 
 pub put-label-spec : {M : Type 1} → statement M
 put-label-spec =
