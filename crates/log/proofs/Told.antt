@@ -11,8 +11,9 @@ use Rattle.machine.specs.declared.Answer.{Answer}
 use Rattle.logline.specs.LogLine.{logLine, lineRoom}
 use Rattle.logline.proofs.Labels.{line-fits}
 use Rattle.log.specs.Log.{lineOutcome, logOf, toldOf}
+use Rattle.log.specs.Promises.{LogAppend}
 
-pub log-append : (xs ys : List Answer) → logOf (xs ++ ys) ≡ logOf xs ++ logOf ys
+pub log-append : LogAppend
 unfolding logOf
 log-append [] ys = refl
 log-append (a ∷ xs) ys = ap (λ (l : List ℕ). logLine a ++ l) (log-append xs ys) ∙ sym (append-assoc (logLine a) (logOf xs) (logOf ys))

@@ -1,4 +1,4 @@
--- The worked frames, by computing them.
+-- The worked frames and the second text, by computing them.
 use Prim.Native.Nat.{ℕ}
 use mathlib.Core.Path.{_≡_, refl, ap}
 use native.Mathlib.Omega.{arith}
@@ -10,11 +10,15 @@ use Rattle.frame.specs.Frame.{isFrame, stepIn, frameOf, framedOutcome}
 use Rattle.logline.specs.Labels.{labels, labelOf}
 use Rattle.logline.specs.LogLine.{numbers, logBody, logLine}
 use Rattle.log.specs.Log.{lineOutcome, logOf, toldOf}
-use Rattle.log.specs.Promises.{programLog, WorkedHold, EchoingFails}
+use Rattle.log.specs.Promises.{programLog, WorkedHold, SecondHold, EchoingFails}
 
 pub worked-hold : WorkedHold
 unfolding computing hexDigits placeIn digitNumber allDigits numberFrom digitOf digits linesFrom isFrame stepIn frameOf framedOutcome labels labelOf numbers logBody logLine lineOutcome logOf toldOf programLog
 worked-hold = refl
+
+pub second-hold : SecondHold
+unfolding computing hexDigits placeIn digitNumber allDigits numberFrom digitOf digits linesFrom isFrame stepIn frameOf framedOutcome labels labelOf numbers logBody logLine lineOutcome logOf toldOf programLog
+second-hold = (refl, refl)
 
 pub echoing-fails : EchoingFails
 unfolding computing hexDigits placeIn digitNumber allDigits numberFrom digitOf digits linesFrom isFrame stepIn frameOf framedOutcome labels labelOf numbers logBody logLine lineOutcome logOf toldOf programLog

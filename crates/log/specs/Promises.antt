@@ -29,6 +29,10 @@ OneLineEach = (answers : List Answer) → lines (logOf answers) ≡ map logBody 
 
 -- ---- texts joined, and a text in pieces
 
+-- `log-append`: the log of answers joined is their logs joined
+abbrev pub LogAppend : Type 0
+LogAppend = (xs ys : List Answer) → logOf (xs ++ ys) ≡ logOf xs ++ logOf ys
+
 -- `texts-joined`: the log of two texts joined after an LF is that of the first, then that of the second from the state the first leaves
 pub record Joined (whole first second : Told) : Type 0 where
   pub state : whole .state ≡ second .state
@@ -52,7 +56,7 @@ piecesTold st start memory begun (p ∷ more) =
     let f = fedOf st start memory begun p in
     after (f .answers) (piecesTold (f .state) start (f .memory) (f .begun) more)
 
--- `pieces-joined`: wherever the pieces end, they tell what the whole text tells, so their logs joined are its log
+-- `pieces-joined`: wherever the pieces end, they tell what the whole text tells, so by `log-append` their logs joined are its log
 abbrev pub PiecesJoined : Type 0
 PiecesJoined = (st : State) (start : ℕ) (memory : List ℕ) (pieces : List (List ℕ)) → piecesTold st start memory [] pieces ≡ textTold st start memory (joined pieces)
 
@@ -101,6 +105,24 @@ workedLog = bytes "00000000000000000000 done\n00000000000001000000 done\n0000000
 -- `worked-hold`
 abbrev pub WorkedHold : Type 0
 WorkedHold = programLog workedFrames ≡ workedLog
+
+-- A second text: an empty line, CR before LF, 12 digits, 14, a lower-case digit; then frames that end in a write cycle, so that every number of
+-- a log line is seen; an empty line with the interrupt line set; at the end a frame without LF.
+abbrev pub secondFrames : List ℕ
+secondFrames =
+    bytes "\n003CF00000000\r\n003CF0000000\n003CF000000000\n003cF00000000\n"
+    ++ bytes "0138F00004000\n0320F11223344\n0124F00000100\n0128F00000002\n013CF00000400\n0400000000000\n\n003CF00000000"
+
+abbrev pub secondLog : List ℕ
+secondLog =
+    bytes "0E000000000000000000 not a frame line\n0E000000000000000000 not a frame line\n0E000000000000000000 not a frame line\n"
+    ++ bytes "0E000000000000000000 not a frame line\n0E000000000000000000 not a frame line\n"
+    ++ bytes "00000000000000000000 done\n00000000000000000000 done\n00000000000000000000 done\n00000000000000000000 done\n00000000000000000000 done\n"
+    ++ bytes "00000001001122334431 done\n0E000000000000000001 not a frame line\n0000000000000004E601 done\n"
+
+-- `second-hold`; and LFs alone are as many empty lines, with none after the last
+abbrev pub SecondHold : Type 0
+SecondHold = (programLog secondFrames ≡ secondLog) × (programLog (bytes "\n\n") ≡ bytes "0E000000000000000000 not a frame line\n0E000000000000000000 not a frame line\n")
 
 -- "One that handles the first frame and only echoes the rest"
 abbrev pub echo : List (List ℕ) → List ℕ

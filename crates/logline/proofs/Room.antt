@@ -3,11 +3,13 @@ use Prim.Native.Nat.{ℕ, _+_, _≤_, _<_, zero-le}
 use mathlib.Core.Path.{_≡_}
 use mathlib.Core.List.{List, []}
 use mathlib.Core.Bool.{Bool, true, false, cond}
+use native.Mathlib.Omega.{arith}
 use borrow.Author.Tests.{le-leb, lt-leb}
 use lib.ListN.{length}
 use lib.Dec.{leb}
 use Rattle.machine.specs.declared.Answer.{Answer}
 use Rattle.logline.specs.LogLine.{logLine, lineRoom, lineIn}
+use Rattle.logline.specs.Promises.{LineRoom}
 use Rattle.logline.proofs.Labels.{line-fits}
 
 module _ (out : List ℕ) (at : ℕ) (a : Answer) where
@@ -20,9 +22,12 @@ module _ (out : List ℕ) (at : ℕ) (a : Answer) where
   no-room h = simp (lt-leb _ _ h)
 
   fits-by : (t : Bool) → length (cond t (logLine a) []) ≤ lineRoom
-  fits-by true = line-fits a
+  fits-by true = omega (arith, line-fits a)
   fits-by false = zero-le
 
   pub line-in-fits : length (lineIn out at a) ≤ lineRoom
   unfolding lineIn
   line-in-fits = fits-by (leb (at + lineRoom) (length out))
+
+pub line-room : LineRoom
+line-room out at a = (in-room out at a, no-room out at a)

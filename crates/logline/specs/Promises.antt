@@ -1,12 +1,12 @@
 -- What is promised of labels and log lines.
-use Prim.Native.Nat.{ℕ, _≤_, _<_, _^_}
+use Prim.Native.Nat.{ℕ, _+_, _≤_, _<_, _^_}
 use mathlib.Core.Path.{_≡_}
-use mathlib.Core.List.{List}
+use mathlib.Core.List.{List, []}
 use lib.ListN.{length, take}
 use Rattle.machine.specs.declared.Answer.{Answer}
 use Rattle.logline.specs.Wrote.{Wrote}
 use Rattle.logline.specs.Labels.{labelOf}
-use Rattle.logline.specs.LogLine.{logLine, lineRoom}
+use Rattle.logline.specs.LogLine.{logLine, lineIn}
 
 -- `labels-short`: no label is above 18 bytes
 abbrev pub LabelsShort : Type 0
@@ -18,7 +18,11 @@ LabelsDiffer = (code other : ℕ) → code < 15 → other < 15 → labelOf code 
 
 -- `line-fits`: 40 bytes are enough for any log line
 abbrev pub LineFits : Type 0
-LineFits = (a : Answer) → length (logLine a) ≤ lineRoom
+LineFits = (a : Answer) → length (logLine a) ≤ 40
+
+-- `line-room`: with 40 bytes from the place on `put_line` writes the log line, with fewer nothing
+abbrev pub LineRoom : Type 0
+LineRoom = (out : List ℕ) (at : ℕ) (a : Answer) → (at + 40 ≤ length out → lineIn out at a ≡ logLine a) × (length out < at + 40 → lineIn out at a ≡ [])
 
 -- the numbers of an answer have no more digits than the log gives them
 pub record AnswerFits (a : Answer) : Type 0 where

@@ -116,7 +116,7 @@ pub fn mail_after(s: Step, mail: [u32; 8]) -> [u32; 8]
     mail
 }
 
-// The word of the mailbox at an offset, or zero where there is none.
+// The word number offset / 4, rounded down, which at a mailbox's offset is that mailbox's; zero from offset 20 hex on.
 pub fn mail_word(mail: [u32; 8], offset: u32) -> u32
     ensures { λ r. ⌜ r ≡ getD mail (mailbox offset) 0 ⌝ }
 {

@@ -1,16 +1,18 @@
 -- "The station service is written in C and calls the same run on an input and an output byte slice": what the call returns and leaves in the output.
-use Prim.Native.Nat.{ℕ}
+use Prim.Native.Nat.{ℕ, _*_, _≤_, _<_}
 use mathlib.Core.Path.{_≡_}
-use mathlib.Core.List.{List, []}
-use mathlib.Core.Bool.{Bool, true, false, cond}
+use mathlib.Core.List.{List, [], _++_}
+use mathlib.Core.Bool.{Bool, cond}
 use lib.IntN.{ℤ, pos, negsuc}
-use lib.ListN.{length}
+use lib.ListN.{length, drop}
 use lib.Dec.{ltb}
 use Rattle.machine.specs.State.{resetState}
 use Rattle.machine.specs.Window.{zeroWords}
 use Rattle.log.specs.declared.Logged.{Logged}
 use Rattle.log.specs.declared.Logged.the-variants.{Written, NoRoom}
+use Rattle.lines.specs.Lines.{lines}
 use Rattle.log.specs.Results.{TextRun, textRun}
+use Rattle.log.specs.Promises.{programLog}
 
 -- "from reset, with 4,096 zero words of memory at address 0"
 unfoldable pub fromReset : List ℕ → List ℕ → TextRun
@@ -46,6 +48,17 @@ CallUnique = (input output : List ℕ) (r q : ℤ) (after also : List ℕ) → C
 abbrev pub EmptyCall : Type 0
 EmptyCall = (output : List ℕ) → (resultOf [] output ≡ pos 0) × (outputOf [] output ≡ output)
 
--- `input-limit`: 1,048,576 bytes are taken, one more is not
-abbrev pub InputLimit : Type 0
-InputLimit = (input : List ℕ) → (length input ≡ 1_048_576 → isTooLong input ≡ false) × (length input ≡ 1_048_577 → isTooLong input ≡ true)
+-- in document 01's numbers; -2 is `negsuc 1`, -1 is `negsuc 0`
+pub record Calls (input output : List ℕ) (r : ℤ) (after : List ℕ) : Type 0 where
+  -- "-2 if the input exceeds 1,048,576 bytes", and the output is as it was
+  pub tooLong : 1_048_576 < length input → (r ≡ negsuc 1) × (after ≡ output)
+  -- "or else -1 exactly if the output has fewer than 40 bytes for each input line", and the output is as it was
+  pub noRoom : length input ≤ 1_048_576 → length output < 40 * length (lines input) → (r ≡ negsuc 0) × (after ≡ output)
+  -- else "the number of log bytes": the output begins with the log program's log, every byte past it is as it was, and there are no more and no fewer
+  pub logged :
+      length input ≤ 1_048_576 → 40 * length (lines input) ≤ length output
+      → (r ≡ pos (length (programLog input))) × (after ≡ programLog input ++ drop (length (programLog input)) output) × (length after ≡ length output)
+
+-- `call-rule`: whatever input and output are, that is what `s5933_log` promises
+abbrev pub CallRule : Type 0
+CallRule = (input output : List ℕ) (r : ℤ) (after : List ℕ) → CallPromised input output r after → Calls input output r after
