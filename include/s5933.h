@@ -40,8 +40,8 @@ extern "C" {
  * saves memory (examples/station does).
  *
  * No byte of the output is written where it refuses, and none past the log. The input is not changed. Calls are independent of
- * each other: nothing is kept between them, and threads may call at the same time, each with an output of its own. About 17 KiB
- * of stack are used.
+ * each other: nothing is kept between them, and threads may call at the same time, each with an output of its own. A call
+ * uses at most 20 KiB of stack, as measured.
  *
  * The caller owes what C cannot say: the two pointers are not null, not even for a length of 0, each has as many bytes as its
  * length says, and the output overlaps neither the input nor anything that is in use elsewhere during the call.
