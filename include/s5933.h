@@ -29,15 +29,19 @@ extern "C" {
  * offset 2, enables 1, data 8) is a step; any other line is answered with code 14 and makes no step.
  *
  * A log line has 20 upper-case hexadecimal digits (code 2, address 8, data 8, enables 1, interrupt line 1), one space, the label
- * of the code, and LF. The code is the key; the label is for people.
+ * of the code, and LF. The code is the key; the label is for people. README.md has the codes. The log is not ended by a NUL.
  *
  * Returns
  *   the number of bytes of the log, 0 for empty input;
  *   S5933_INPUT_TOO_LONG (-2) if the input exceeds 1,048,576 bytes;
  *   or else S5933_NO_ROOM (-1), exactly if the output has fewer than 40 bytes for each line of the input.
  *
+ * A text has no more lines than bytes, so S5933_LINE_ROOM times the input's length is enough for any; counting the lines first
+ * saves memory (examples/station does).
+ *
  * No byte of the output is written where it refuses, and none past the log. The input is not changed. Calls are independent of
- * each other: nothing is kept between them. About 17 KiB of stack are used.
+ * each other: nothing is kept between them, and threads may call at the same time, each with an output of its own. A call
+ * uses at most 20 KiB of stack, as measured.
  *
  * The caller owes what C cannot say: the two pointers are not null, not even for a length of 0, each has as many bytes as its
  * length says, and the output overlaps neither the input nor anything that is in use elsewhere during the call.
