@@ -10,7 +10,7 @@ use Rattle.word.proofs.mask.Tie as tie
 -- the mask of the four lowest bits is that of the whole number
 lowest : (e k : ℕ) → e % 16 ≡ k → mask k ≡ mask e
 unfolding mask byteMask
-lowest e k h = rw (← h) (simp (bit-low e 0, bit-low e 1, bit-low e 2, bit-low e 3))
+lowest e k h = rw (← h) (simp (bit-low 4 e 0, bit-low 4 e 1, bit-low 4 e 2, bit-low 4 e 3))
 
 pub mask-spec : {M : Type 1} → statement M
 unfolding bit mask byteMask
