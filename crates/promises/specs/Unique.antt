@@ -1,5 +1,6 @@
 -- "Any two results that satisfy it are shown equal": the contract of nearly every public function is one equation, `view result ≡ value`,
--- where the view is the result itself, the words that a FIFO holds, the number of a count or a fill, or the machine's state of a controller.
+-- where the view is the result itself, the words that a FIFO holds, the number of a count or a fill, the machine's state of a controller, or its
+-- outcome of a stepped one with the memory.
 use mathlib.Core.Path.{_≡_}
 
 -- `unique`: two results of which such a contract holds have the same view
