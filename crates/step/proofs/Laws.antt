@@ -4,7 +4,8 @@ use mathlib.Core.Path.{_≡_, refl}
 use mathlib.Core.Bool.{Bool, true, false, _&&_, _||_, true≢false}
 use mathlib.Core.List.{List}
 use lib.ListN.{length}
-use borrow.Author.Tests.{lt-leb}
+use lib.Dec.{eqb}
+use borrow.Author.Tests.{eqb-true, lt-leb}
 use Rattle.machine.specs.Sides.{Side, other}
 use Rattle.machine.specs.State.{State, held}
 use Rattle.machine.specs.Access.{Access, kindOf, isReset, reads, writes}
@@ -13,14 +14,22 @@ use Rattle.machine.specs.Commands.{clearsFifo}
 use Rattle.machine.specs.Fifos.{isFull, cycleFeeds, cycleTakes, fifoAfter}
 use Rattle.machine.specs.Code.{codeOf, tests}
 use Rattle.machine.specs.Step.{showing, doneReply}
+use Rattle.machine.specs.declared.Step.{Step}
 use Rattle.reads.specs.Shown.{shownBy}
-use Rattle.promises.proofs.Tests.{none-applies}
+use Rattle.promises.proofs.Tests.{and-left, and-right, none-applies}
 use Rattle.promises.proofs.Form.{room-to-write, room-to-read}
 
 -- a FIFO that a step neither clears, feeds nor empties
 pub fifo-same : (side : Side) (x : Access) (word : ℕ) (ws : List ℕ) → clearsFifo side x ≡ false → cycleFeeds side x ≡ false → writes side fifoPort x ≡ false
     → (cycleTakes side x || reads (other side) fifoPort x) ≡ false → ws ≡ fifoAfter side x word ws
 fifo-same side x word ws c f w t = rw (c, f, w, t)
+
+-- a step of a kind at the FIFO port
+pub at-port : (kind : ℕ) (s : Step) → (eqb (s .kind) kind && eqb (s .offset) 0x20) ≡ true → (s .kind ≡ kind) × (s .offset ≡ 0x20)
+at-port kind s e =
+    let k = eqb (s .kind) kind in
+    let o = eqb (s .offset) 0x20 in
+    (eqb-true (s .kind) kind (and-left k o e), eqb-true (s .offset) 0x20 (and-right k o e))
 
 -- code 0: there is room for what comes in
 room-if : (a b f : Bool) → (a ≡ true → f ≡ false) → (b ≡ true → f ≡ false) → ((a || b) && f) ≡ false
