@@ -8,7 +8,7 @@ use lib.Dec.{eqb}
 use Rattle.machine.specs.Words.{shown}
 use Rattle.machine.specs.State.{State}
 use Rattle.machine.specs.Access.{Access, kindOf}
-use Rattle.machine.specs.Step.{register, readValue}
+use Rattle.machine.specs.Step.{register, readValue, doneReply}
 use Rattle.reads.specs.Shown.{shownBy}
 
 above : (k : ℕ) → (not (eqb (suc (suc (suc k))) 0) && not (eqb (suc (suc (suc k))) 2)) ≡ true
@@ -22,7 +22,7 @@ addon-reads (suc (suc (suc k))) e h = absurd (true≢false (sym (above k) ∙ e)
 
 module _ (st : State) (x : Access) where
   pub other-shows : (k : ℕ) → (not (eqb k 0) && not (eqb k 2)) ≡ true → 0 ≡ shownBy (kindOf k) st x
-  unfolding shownBy
+  unfolding shownBy doneReply
   other-shows zero e = absurd (true≢false (sym e))
   other-shows (suc zero) e = refl
   other-shows (suc (suc zero)) e = absurd (true≢false (sym e))
@@ -34,7 +34,7 @@ module _ (st : State) (x : Access) where
 
   pub register-shows : (k : ℕ) → (not (eqb k 0) && not (eqb k 2)) ≡ false → eqb (x .offset) 0x20 ≡ false
       → shown (register st (x .offset)) (x .enables) ≡ shownBy (kindOf k) st x
-  unfolding shownBy readValue
+  unfolding shownBy doneReply readValue
   register-shows zero e p = rw p
   register-shows (suc zero) e p = absurd (true≢false e)
   register-shows (suc (suc zero)) e p = rw p

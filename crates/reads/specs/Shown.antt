@@ -1,13 +1,11 @@
 -- What a step shows of the registers.
 use Prim.Native.Nat.{ℕ}
+use mathlib.Core.Bool.{cond}
+use mathlib.Core.List.{[]}
 use Rattle.machine.specs.State.{State}
-use Rattle.machine.specs.Access.{Kind, reading, writing, cycle, chipReset, unknown, Access}
-use Rattle.machine.specs.Step.{readValue}
+use Rattle.machine.specs.Access.{Kind, isAccess, Access}
+use Rattle.machine.specs.Step.{doneReply}
 
--- a read its register, or at the port the front word; any other step nothing
+-- the data that the machine answers a done read or write, which no memory has a part in; any other step shows nothing
 unfoldable pub shownBy : Kind → State → Access → ℕ
-shownBy (reading party) st x = readValue party st x
-shownBy (writing party) st x = 0
-shownBy (cycle side) st x = 0
-shownBy chipReset st x = 0
-shownBy unknown st x = 0
+shownBy k st x = cond (isAccess k) (doneReply k st 0 [] x .value) 0

@@ -1,6 +1,6 @@
 use borrow.Author.Tests.{ne-eqb}
 use Rattle.machine.specs.Access.{accessOf}
-use Rattle.machine.specs.Step.{readValue}
+use Rattle.machine.specs.Step.{readValue, doneReply}
 use Rattle.controller.specs.Controller.{laneOf, stateOf}
 use Rattle.reads.specs.Shown.{shownBy}
 use Rattle.reads.proofs.Laws.{other-shows, register-shows, addon-reads}
@@ -21,11 +21,11 @@ returns-2 c =
     simp (c .shown .ensures, c .before .register .ensures) (register-shows (stateOf (a .c)) (accessOf (a .s)) (a .s .kind) (j .if1 .left) (ne-eqb _ _ (i .if2 .taken)))
 
 returns-3 : tie.Need-returns-3
-unfolding stateOf laneOf shownBy readValue
+unfolding stateOf laneOf shownBy doneReply readValue
 returns-3 c = rw (c .before .if3 .taken, c .before .before .before .if2 .left) (c .front .ensures)
 
 returns-4 : tie.Need-returns-4
-unfolding stateOf laneOf shownBy readValue
+unfolding stateOf laneOf shownBy doneReply readValue
 returns-4 c =
     let i = c .before in
     let j = i .before .before in
