@@ -1,5 +1,5 @@
 /* examples.c: the ten marked examples of document 01, over the model.
- * Part of the second program, written from document 01 alone. */
+ * Part of the second program, written from documents 01 and 02 alone. */
 #include "model.h"
 
 #include <stdio.h>

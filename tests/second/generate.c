@@ -1,7 +1,13 @@
 /* generate.c: frames for testing, the same for the same seed.
- * Part of the second program, written from document 01 alone.
+ * Part of the second program, written from documents 01 and 02 alone.
  *
- *   generate PROFILE SEED COUNT > frames    COUNT is the number of lines
+ *   generate PROFILE SEED COUNT [SET] > frames
+ *
+ * COUNT is the number of lines after the set line. SET is 0 or 1; if it is
+ * not given, seeds and profiles take turns, so that a round of all profiles
+ * has both sets and the next seed's round has them the other way round. The
+ * profile "sets" begins with other first lines, most of them of no set, and
+ * some of its texts end there.
  *
  * The generator follows the run with the model, so that it knows the state
  * reached and can steer into full, empty, aborted and finished states. */
@@ -789,6 +795,72 @@ static void broken_move(struct generator *g)
         good[below(g, 4)](g);
 }
 
+/* ---- first lines ---- */
+
+static void set_line(unsigned set)
+{
+    printf("%02X\n", set);
+}
+
+/* Short first lines, with LF and without. */
+static void short_first_line(struct generator *g)
+{
+    static const char few[] = "00001111\n\r 2";
+    uint32_t n = below(g, 5);
+
+    for (uint32_t i = 0; i < n; i++)
+        putchar(few[below(g, sizeof few - 1)]);
+    if (one_in(g, 2))
+        putchar('\n');
+    else
+        g->left = one_in(g, 2) ? 0 : g->left;
+}
+
+/* A set line with one byte changed, put in or taken out; or cut off, at
+ * the end of the input. */
+static void altered_set_line(struct generator *g)
+{
+    char text[8] = { '0', (char)('0' + below(g, 2)), '\n', '\0' };
+    uint32_t at = below(g, 3);
+    uint32_t form = below(g, 4);
+
+    if (form == 0)
+        text[at] = (char)random32(g);
+    else if (form == 1)
+        memmove(text + at, text + at + 1, 3 - at);
+    else if (form == 2)
+        memmove(text + at + 1, text + at, 3 - at);
+    else
+        g->left = 0;
+    fwrite(text, 1, form == 0 ? 3 : form == 1 ? 2 : form == 2 ? 4 : at,
+           stdout);
+}
+
+/* Some first line, by the seed; the lines behind it are the profile's. */
+static void some_first_line(struct generator *g)
+{
+    switch (below(g, 8)) {
+    case 0:
+        set_line(below(g, 256));
+        break;
+    case 1:
+        set_line(below(g, SETS));
+        break;
+    case 2:
+        break;                  /* none: a frame comes first */
+    case 3:
+        for (uint32_t n = 1 + below(g, 100000); n > 0; n--)
+            putchar('0');
+        break;
+    case 4:
+    case 5:
+        short_first_line(g);
+        break;
+    default:
+        altered_set_line(g);
+    }
+}
+
 /* ---- resets and mixes ---- */
 
 static void resets_move(struct generator *g)
@@ -838,15 +910,20 @@ static const struct {
     { "fifos", fifos_move }, { "transfers", transfers_move },
     { "aborts", aborts_move }, { "unknown", unknown_move },
     { "broken", broken_move }, { "resets", resets_move },
-    { "all", all_move }
+    { "all", all_move }, { "sets", broken_move }
 };
 
-static move *profile_named(const char *name)
+enum { PROFILES = sizeof profiles / sizeof profiles[0],
+       SETS_PROFILE = PROFILES - 1 };
+
+/* The profile's number; PROFILES if there is none of the name. */
+static size_t profile_named(const char *name)
 {
-    for (size_t i = 0; i < sizeof profiles / sizeof profiles[0]; i++)
-        if (strcmp(name, profiles[i].name) == 0)
-            return profiles[i].make;
-    return NULL;
+    size_t i = 0;
+
+    while (i < PROFILES && strcmp(name, profiles[i].name) != 0)
+        i++;
+    return i;
 }
 
 static bool number_of(const char *text, uint64_t *number)
@@ -857,19 +934,39 @@ static bool number_of(const char *text, uint64_t *number)
     return *text >= '0' && *text <= '9' && *end == '\0';
 }
 
+/* Takes the arguments; false if they are none. */
+static bool arguments(struct generator *g, int argc, char **argv,
+                      size_t *profile, uint64_t *set)
+{
+    if (argc != 4 && argc != 5)
+        return false;
+    *profile = profile_named(argv[1]);
+    if (*profile == PROFILES || !number_of(argv[2], &g->random)
+        || !number_of(argv[3], &g->left))
+        return false;
+    *set = (g->random + *profile) % SETS;
+    return argc == 4 || (number_of(argv[4], set) && *set < SETS);
+}
+
 int main(int argc, char **argv)
 {
     static struct generator g;
-    move *make = argc == 4 ? profile_named(argv[1]) : NULL;
+    size_t profile;
+    uint64_t set;
+    move *make;
 
-    if (make == NULL || !number_of(argv[2], &g.random)
-        || !number_of(argv[3], &g.left)) {
-        fputs("usage: generate PROFILE SEED COUNT > frames\n", stderr);
+    if (!arguments(&g, argc, argv, &profile, &set)) {
+        fputs("usage: generate PROFILE SEED COUNT [SET] > frames\n", stderr);
         return 2;
     }
+    make = profiles[profile].make;
     model_reset(&g.chip);
     g.window = (struct window){ g.memory, 0, MEMORY_WORDS };
     g.open_end = make == broken_move || make == all_move;
+    if (profile == SETS_PROFILE)
+        some_first_line(&g);
+    else
+        set_line((unsigned)set);
     while (g.left > 0 && !ferror(stdout))
         make(&g);
     return fflush(stdout) == 0 && !ferror(stdout) ? 0 : 1;

@@ -1,5 +1,5 @@
 /* model.c: the controller of document 01.
- * Part of the second program, written from document 01 alone. */
+ * Part of the second program, written from documents 01 and 02 alone. */
 #include "model.h"
 
 #include <string.h>
@@ -13,12 +13,21 @@
 #define INTCSR_ABORT UINT32_C(0x00300000)   /* bits 20 and 21 */
 #define MCSR_KEPT    UINT32_C(0x0000F700)
 
-const char *const model_label[CODES] = {
-    "done", "state out of form", "window out of form", "unknown step",
-    "unknown offset", "bad enables", "part FIFO access",
-    "read-only register", "FIFO full or empty", "transfer off",
-    "count is zero", "abort stands", "FIFO not ready", "no memory there",
-    "not a frame line"
+const char *const model_label[SETS][CODES] = {
+    [ENGLISH] = {
+        "done", "state out of form", "window out of form", "unknown step",
+        "unknown offset", "bad enables", "part FIFO access",
+        "read-only register", "FIFO full or empty", "transfer off",
+        "count is zero", "abort stands", "FIFO not ready",
+        "no memory there", "not a frame line", "unknown label set"
+    },
+    [GERMAN] = {
+        "erledigt", "Zustand ungueltig", "Fenster ungueltig",
+        "Schritt unbekannt", "Offset unbekannt", "Freigabe ungueltig",
+        "FIFO-Teilzugriff", "nur lesbar", "FIFO voll/leer", "Transfer aus",
+        "Zaehler ist null", "Abbruch steht an", "FIFO nicht bereit",
+        "kein Speicher dort", "keine Rahmenzeile", "Textsatz unbekannt"
+    }
 };
 
 /* The data bits that each value of the enables lets through. */

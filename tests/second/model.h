@@ -1,5 +1,5 @@
 /* model.h: the controller of document 01.
- * Part of the second program, written from document 01 alone. */
+ * Part of the second program, written from documents 01 and 02 alone. */
 #ifndef MODEL_H
 #define MODEL_H
 
@@ -17,8 +17,12 @@ enum {
     DONE, STATE_OUT_OF_FORM, WINDOW_OUT_OF_FORM, UNKNOWN_STEP,
     UNKNOWN_OFFSET, BAD_ENABLES, PART_FIFO_ACCESS, READ_ONLY_REGISTER,
     FIFO_FULL_OR_EMPTY, TRANSFER_OFF, COUNT_IS_ZERO, ABORT_STANDS,
-    FIFO_NOT_READY, NO_MEMORY_THERE, NOT_A_FRAME_LINE, CODES
+    FIFO_NOT_READY, NO_MEMORY_THERE, NOT_A_FRAME_LINE, UNKNOWN_LABEL_SET,
+    CODES
 };
+
+/* Sets of labels, by their numbers; every number from SETS on is unknown. */
+enum { ENGLISH, GERMAN, SETS };
 
 /* Registers by place: offset divided by 4. */
 enum {
@@ -66,8 +70,8 @@ struct answer {
     uint32_t code, address, data, enables, line;
 };
 
-/* The label of each code. */
-extern const char *const model_label[CODES];
+/* The label of each code in each set. */
+extern const char *const model_label[SETS][CODES];
 
 /* Puts the controller in the state after a chip reset. */
 void model_reset(struct controller *c);

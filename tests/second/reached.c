@@ -1,10 +1,12 @@
 /* reached.c: measures what a run from reset has reached.
- * Part of the second program, written from document 01 alone.
+ * Part of the second program, written from documents 01 and 02 alone.
  *
  *   reached FRAMES LOG    exit status 0 if all was reached, 1 if not,
  *                         2 if the log doesn't fit the frames
  *
- * It goes by the two texts alone, not by the model. */
+ * The first line of the frames is the set of labels, and is not answered;
+ * each line of the log has its code's label of that set. It goes by the two
+ * texts alone, not by the model's steps. */
 #define _POSIX_C_SOURCE 200809L
 #include "model.h"
 
@@ -15,7 +17,7 @@
 
 enum {
     KINDS = CHIP_RESET + 2,     /* the last one: every unknown kind */
-    FRAME_DIGITS = 13, ANSWER_DIGITS = 20, LINE_START = 24
+    FRAME_DIGITS = 13, ANSWER_DIGITS = 20, LABEL_AT = 21, LINE_START = 40
 };
 enum { PCI, ADDON, SIDES };
 enum { READ, WRITTEN, REFUSED, USES };
@@ -33,6 +35,7 @@ struct account {
 };
 
 struct reached {
+    uint32_t set;
     uint64_t lines, broken;
     uint64_t pair[KINDS][CODES];
     uint64_t use[SIDES][REGISTERS][USES];
@@ -109,6 +112,20 @@ static bool parse_answer(const struct line *l, struct answer *a)
         && digits(l->start + 18, 1, &a->enables)
         && digits(l->start + 19, 1, &a->line)
         && a->code < CODES;
+}
+
+/* The first line: a set's number in two digits. */
+static bool parse_set(const struct line *l, uint32_t *set)
+{
+    return l->length == 2 && digits(l->start, 2, set) && *set < SETS;
+}
+
+static bool is_label(const struct line *l, const char *label)
+{
+    size_t n = strlen(label);
+
+    return l->length == LABEL_AT + n
+        && memcmp(l->start + LABEL_AT, label, n) == 0;
 }
 
 /* ---- measuring ---- */
@@ -201,7 +218,8 @@ static bool measure(struct reached *r, const struct line *frame,
     uint32_t kind = s.kind < KINDS ? s.kind : KINDS - 1;
 
     r->lines++;
-    if (!parse_answer(log, &a) || good != (a.code != NOT_A_FRAME_LINE))
+    if (!parse_answer(log, &a) || good != (a.code != NOT_A_FRAME_LINE)
+        || !is_label(log, model_label[r->set][a.code]))
         return false;
     if (!good) {
         r->broken++;
@@ -219,6 +237,8 @@ static bool measure_files(struct reached *r, FILE *frames, FILE *log)
 {
     struct line frame, answer;
 
+    if (!next_line(frames, &frame) || !parse_set(&frame, &r->set))
+        return false;
     while (next_line(frames, &frame))
         if (!next_line(log, &answer) || !measure(r, &frame, &answer))
             return false;
@@ -230,6 +250,7 @@ static bool measure_files(struct reached *r, FILE *frames, FILE *log)
 
 static void print_pairs(const struct reached *r)
 {
+    printf("set %02" PRIX32 "\n", r->set);
     puts("answers of each kind, as code:times");
     for (int k = 0; k < KINDS; k++) {
         printf("  %-12s", kind_name[k]);

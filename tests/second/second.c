@@ -1,8 +1,12 @@
-/* second.c: the log program of document 01.
- * Part of the second program, written from document 01 alone.
+/* second.c: the log program of documents 01 and 02.
+ * Part of the second program, written from documents 01 and 02 alone.
  *
  *   second < frames > log     writes the log
- *   second --lines < frames   prints the number of lines and of log bytes */
+ *   second --lines < frames   prints the number of log lines and log bytes
+ *
+ * The first line is the set of labels. Exit status 0 if the whole input
+ * was answered, 1 if a read or write failed, 2 if it was called wrongly,
+ * 3 if the set is unknown. */
 #define _POSIX_C_SOURCE 200809L
 #include "model.h"
 
@@ -21,9 +25,16 @@ enum {
     NO_DIGIT = 0x80
 };
 
+/* What the first bytes say besides a set: none, or not yet. */
+enum { UNKNOWN_SET = SETS, OPEN_SET };
+enum { SET_DIGITS = 2, SET_LINE = SET_DIGITS + 1 };
+enum { ANSWERED, FAILED, CALLED_WRONGLY, REFUSED_SET };
+
 struct run {
     struct controller chip;
     struct window window;
+    int set;
+    bool ended;                 /* the input ended with the set line */
     bool quiet;                 /* count the log, don't write it */
     bool overlong;              /* the open line is past 13 bytes */
     size_t held;                /* bytes of the open line in in[] */
@@ -51,11 +62,15 @@ static void make_tables(void)
         byte_digits[i][0] = digits[i / 16];
         byte_digits[i][1] = digits[i % 16];
     }
+}
+
+static void use_labels(const char *const label[CODES])
+{
     for (unsigned i = 0; i < CODES; i++) {
-        size_t n = strlen(model_label[i]);
+        size_t n = strlen(label[i]);
 
         tail[i][0] = ' ';
-        memcpy(tail[i] + 1, model_label[i], n);
+        memcpy(tail[i] + 1, label[i], n);
         tail[i][n + 1] = '\n';
         tail_length[i] = n + 2;
     }
@@ -195,43 +210,118 @@ static bool take_last(struct run *r)
     return log_broken(r);
 }
 
-/* Flushes before each read, so that a reader on a pipe has every answer. */
-static bool run_input(struct run *r)
+/* Bytes behind those held: how many, 0 at the end, -1 if it fails. */
+static ssize_t read_some(struct run *r)
 {
-    for (;;) {
-        ssize_t n;
+    ssize_t n;
 
-        if (!flush_log(r))
-            return false;
+    do
         n = read(STDIN_FILENO, r->in + r->held, IN_SIZE - r->held);
-        if (n < 0 && errno == EINTR)
-            continue;
+    while (n < 0 && errno == EINTR);
+    return n;
+}
+
+/* The set whose line the n bytes begin with; OPEN_SET if they can still
+ * become one. Only the end of the input stands in for the LF. */
+static int set_of(const unsigned char *text, size_t n, bool ended)
+{
+    static const char line[SETS][SET_LINE] = {
+        [ENGLISH] = { '0', '0', '\n' }, [GERMAN] = { '0', '1', '\n' }
+    };
+
+    for (int set = 0; set < SETS; set++) {
+        if (n >= SET_LINE && memcmp(text, line[set], SET_LINE) == 0)
+            return set;
+        if (n < SET_LINE && memcmp(text, line[set], n) == 0) {
+            if (!ended)
+                return OPEN_SET;
+            if (n == SET_DIGITS)
+                return set;
+        }
+    }
+    return UNKNOWN_SET;
+}
+
+/* Reads until the set is known or none; false if a read fails. */
+static bool read_set(struct run *r)
+{
+    do {
+        ssize_t n = read_some(r);
+
         if (n < 0)
             return false;
-        if (n == 0)
-            return take_last(r) && flush_log(r);
-        if (!take_lines(r, r->held + (size_t)n))
+        r->held += (size_t)n;
+        r->ended = n == 0;
+        r->set = set_of(r->in, r->held, r->ended);
+    } while (r->set == OPEN_SET);
+    return true;
+}
+
+/* The one line for an unknown set: its label is the English one. */
+static bool refuse_set(struct run *r)
+{
+    struct answer a = { .code = UNKNOWN_LABEL_SET };
+
+    use_labels(model_label[ENGLISH]);
+    return log_answer(r, &a) && flush_log(r);
+}
+
+/* The lines that came in one read with the set line. */
+static bool take_first(struct run *r)
+{
+    size_t rest = r->held - (r->ended ? SET_DIGITS : SET_LINE);
+
+    r->held = 0;
+    memmove(r->in, r->in + SET_LINE, rest);
+    return take_lines(r, rest);
+}
+
+/* Flushes before each read, so that a reader on a pipe has every answer. */
+static bool run_lines(struct run *r)
+{
+    ssize_t n = 0;
+
+    if (!take_first(r))
+        return false;
+    while (!r->ended) {
+        if (!flush_log(r))
             return false;
+        n = read_some(r);
+        if (n < 0 || !take_lines(r, r->held + (size_t)n))
+            return false;
+        r->ended = n == 0;
     }
+    return take_last(r) && flush_log(r);
+}
+
+/* Gives the exit status. */
+static int run_input(struct run *r)
+{
+    if (!read_set(r))
+        return FAILED;
+    if (r->set == UNKNOWN_SET)
+        return refuse_set(r) ? REFUSED_SET : FAILED;
+    use_labels(model_label[r->set]);
+    return run_lines(r) ? ANSWERED : FAILED;
 }
 
 int main(int argc, char **argv)
 {
     struct run *r = &the_run;
+    int status;
 
     r->quiet = argc == 2 && strcmp(argv[1], "--lines") == 0;
     if (argc > 1 && !r->quiet) {
         fputs("usage: second [--lines] < frames\n", stderr);
-        return 2;
+        return CALLED_WRONGLY;
     }
     make_tables();
     model_reset(&r->chip);
     r->window = (struct window){ r->memory, 0, MEMORY_WORDS };
-    if (!run_input(r)) {
+    status = run_input(r);
+    if (status == FAILED)
         perror("second");
-        return 1;
-    }
-    if (r->quiet)
+    else if (r->quiet)
         printf("%" PRIu64 " %" PRIu64 "\n", r->lines, r->log_bytes);
-    return fflush(stdout) == 0 ? 0 : 1;
+    return fflush(stdout) == 0 ? status : FAILED;
 }

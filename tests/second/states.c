@@ -1,5 +1,5 @@
 /* states.c: runs the table of states.txt over the model.
- * Part of the second program, written from document 01 alone.
+ * Part of the second program, written from documents 01 and 02 alone.
  *
  *   states states.txt    exit status 0 if every case holds */
 #include "model.h"
@@ -193,7 +193,7 @@ static bool case_holds(struct test_case *t)
 
     snprintf(line, sizeof line, "%02X%08X%08X%X%X %s", (unsigned)a.code,
              (unsigned)a.address, (unsigned)a.data, (unsigned)a.enables,
-             (unsigned)a.line, model_label[a.code]);
+             (unsigned)a.line, model_label[ENGLISH][a.code]);
     line_same = strcmp(line, t->field[LOG_LINE]) == 0;
     state_same = same_state(&chip, &t->after);
     memory_same = memory_as_written(t);
