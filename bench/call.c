@@ -46,7 +46,8 @@ int main(int argc, char **argv)
         fail("no memory");
     start = nanoseconds();
     for (long i = 0; i < times && log >= 0; i++)
-        log = s5933_log(input, n, output, lines * S5933_LINE_ROOM);
+        log = s5933_log(input, n, output, lines * S5933_LINE_ROOM,
+                        S5933_ENGLISH);
     spent = nanoseconds() - start;
     if (log <= 0)
         fail("the call refused");

@@ -17,24 +17,32 @@ extern "C" {
 /* The bytes of output that each line of the input wants. No log line is longer. */
 #define S5933_LINE_ROOM 40
 
+/* The sets of labels. */
+#define S5933_ENGLISH 0
+#define S5933_GERMAN 1
+
 /* What s5933_log returns where it refuses. */
 #define S5933_NO_ROOM (-1)
 #define S5933_INPUT_TOO_LONG (-2)
+#define S5933_UNKNOWN_SET (-3)
 
 /*
  * Runs the lines of the input, one after the other, on a controller from reset with 4,096 zero words of host memory at
  * address 0, and writes one log line for each from the output's start.
  *
  * A line ends in LF; a last one without LF counts if it isn't empty. A line of exactly 13 upper-case hexadecimal digits (kind 2,
- * offset 2, enables 1, data 8) is a step; any other line is answered with code 14 and makes no step.
+ * offset 2, enables 1, data 8) is a step; any other line is answered with code 14 and makes no step. The input has no set line,
+ * unlike that of the log program: the set of labels is the last argument, S5933_ENGLISH or S5933_GERMAN. It chooses the labels and
+ * nothing else.
  *
  * A log line has 20 upper-case hexadecimal digits (code 2, address 8, data 8, enables 1, interrupt line 1), one space, the label
  * of the code, and LF. The code is the key; the label is for people. README.md has the codes. The log is not ended by a NUL.
  *
- * Returns
- *   the number of bytes of the log, 0 for empty input;
+ * Returns, the first that applies,
  *   S5933_INPUT_TOO_LONG (-2) if the input exceeds 1,048,576 bytes;
- *   or else S5933_NO_ROOM (-1), exactly if the output has fewer than 40 bytes for each line of the input.
+ *   S5933_UNKNOWN_SET (-3) if the set is any other number, for empty input too;
+ *   S5933_NO_ROOM (-1) if the output has fewer than 40 bytes for each line of the input;
+ *   the number of bytes of the log, 0 for empty input.
  *
  * A text has no more lines than bytes, so S5933_LINE_ROOM times the input's length is enough for any; counting the lines first
  * saves memory (examples/station does).
@@ -46,7 +54,7 @@ extern "C" {
  * The caller owes what C cannot say: the two pointers are not null, not even for a length of 0, each has as many bytes as its
  * length says, and the output overlaps neither the input nor anything that is in use elsewhere during the call.
  */
-int64_t s5933_log(const uint8_t *input, size_t input_length, uint8_t *output, size_t output_length);
+int64_t s5933_log(const uint8_t *input, size_t input_length, uint8_t *output, size_t output_length, uint32_t set);
 
 #ifdef __cplusplus
 }

@@ -33,17 +33,19 @@ struct pages {
     size_t size;
 };
 
-/* An input, and what document 01 asks for. */
+/* An input, and what documents 01 and 02 ask for: a log in each set. */
 struct text {
     const char *name;
     const uint8_t *bytes;
     size_t length, lines;
-    uint8_t *log;
-    size_t log_length;
+    uint8_t *log[SETS];
+    size_t log_length[SETS];
 };
 
 /* Where a buffer stands in its pages. */
 enum place { AT_START, AT_END, PLACES };
+
+static const uint32_t no_set[] = { SETS, 256, 0xFFFFFFFF };
 
 /* Pages of several sizes, so that a small buffer costs little. */
 static const size_t sizes[SIZES] = { PAGE, 1 << 16, 1 << 22, OUTPUT_MOST };
@@ -99,7 +101,7 @@ static struct pages new_pages(size_t bytes)
     return p;
 }
 
-/* ---- what document 01 asks for ---- */
+/* ---- what documents 01 and 02 ask for ---- */
 
 /* The length of the first line, without its LF. */
 static size_t line_length(const uint8_t *bytes, size_t n)
@@ -143,7 +145,8 @@ static bool is_frame(const uint8_t *line, size_t n, struct step *s)
 }
 
 /* Writes the log of a text that is not too long; gives its length. */
-static size_t write_log(const uint8_t *bytes, size_t n, uint8_t *log)
+static size_t write_log(const uint8_t *bytes, size_t n,
+                        const char *const label[CODES], uint8_t *log)
 {
     static uint32_t memory[MEMORY_WORDS];
     struct window window = { memory, 0, MEMORY_WORDS };
@@ -166,7 +169,7 @@ static size_t write_log(const uint8_t *bytes, size_t n, uint8_t *log)
         used += (size_t)sprintf(text, "%02X%08X%08X%X%X %s\n",
                                 (unsigned)a.code, (unsigned)a.address,
                                 (unsigned)a.data, (unsigned)a.enables,
-                                (unsigned)a.line, model_label[a.code]);
+                                (unsigned)a.line, label[a.code]);
         memcpy(log + used - strlen(text), text, strlen(text));
         at += line + 1;
     }
@@ -179,10 +182,18 @@ static struct text new_text(const char *name, const uint8_t *bytes,
     struct text t = { .name = name, .bytes = bytes, .length = length };
 
     t.lines = count_lines(bytes, length);
-    t.log = must(malloc(t.lines * S5933_LINE_ROOM + 1));
-    if (length <= S5933_INPUT_MOST)
-        t.log_length = write_log(bytes, length, t.log);
+    for (int set = 0; set < SETS && length <= S5933_INPUT_MOST; set++) {
+        t.log[set] = must(malloc(t.lines * S5933_LINE_ROOM + 1));
+        t.log_length[set] = write_log(bytes, length, model_label[set],
+                                      t.log[set]);
+    }
     return t;
+}
+
+static void free_text(struct text *t)
+{
+    for (int set = 0; set < SETS; set++)
+        free(t->log[set]);
 }
 
 /* ---- a call ---- */
@@ -199,19 +210,22 @@ static uint8_t *placed(const struct pages *p, enum place where, size_t n)
     return where == AT_START ? p->start : p->start + p->size - n;
 }
 
-static int64_t wanted(const struct text *t, size_t output_length)
+static int64_t wanted(const struct text *t, size_t output_length,
+                      uint32_t set)
 {
     if (t->length > S5933_INPUT_MOST)
         return -2;
+    if (set > 1)
+        return -3;
     if (output_length < 40 * t->lines)
         return -1;
-    return (int64_t)t->log_length;
+    return (int64_t)t->log_length[set];
 }
 
 /* Every byte of the output's pages: the log from its place on, the pattern
  * elsewhere. */
 static void compare(const struct pages *out, const uint8_t *fill,
-                    const uint8_t *output, const struct text *t,
+                    const uint8_t *output, const uint8_t *wanted_log,
                     int64_t returned)
 {
     size_t before = (size_t)(output - out->start);
@@ -220,14 +234,14 @@ static void compare(const struct pages *out, const uint8_t *fill,
 
     if (memcmp(out->start, fill, before) != 0)
         fail("a byte before the output changed");
-    if (memcmp(output, t->log, log) != 0)
+    if (log > 0 && memcmp(output, wanted_log, log) != 0)
         fail("another log");
     if (memcmp(out->start + after, fill + after, out->size - after) != 0)
         fail("a byte past the log changed");
 }
 
 static void call(const struct text *t, enum place in_place,
-                 enum place out_place, size_t output_length)
+                 enum place out_place, size_t output_length, uint32_t set)
 {
     const struct pages *in = fitting(inputs, t->length);
     const struct pages *out = fitting(outputs, output_length);
@@ -236,29 +250,33 @@ static void call(const struct text *t, enum place in_place,
     uint8_t *output = placed(out, out_place, output_length);
     int64_t returned;
 
-    snprintf(current, sizeof current, "%s: input %zu at its pages' %s, "
-             "output %zu at its pages' %s", t->name, t->length,
-             in_place == AT_START ? "start" : "end", output_length,
-             out_place == AT_START ? "start" : "end");
+    snprintf(current, sizeof current, "%s: set %u, input %zu at its pages' "
+             "%s, output %zu at its pages' %s", t->name, (unsigned)set,
+             t->length, in_place == AT_START ? "start" : "end",
+             output_length, out_place == AT_START ? "start" : "end");
     memcpy(input, t->bytes, t->length);
     protect(in, PROT_READ);
     memcpy(out->start, fill, out->size);
-    returned = s5933_log(input, t->length, output, output_length);
+    returned = s5933_log(input, t->length, output, output_length, set);
     calls++;
-    if (returned != wanted(t, output_length)) {
+    if (returned != wanted(t, output_length, set)) {
         printf("returned %lld, wanted %lld\n", (long long)returned,
-               (long long)wanted(t, output_length));
+               (long long)wanted(t, output_length, set));
         fail("another return value");
     }
-    compare(out, fill, output, t, returned);
+    compare(out, fill, output, t->log[set % SETS], returned);
     protect(in, PROT_READ | PROT_WRITE);
 }
 
+/* Each set at every place; numbers that are none at the ends. */
 static void call_placed(const struct text *t, size_t output_length)
 {
-    for (enum place in = AT_START; in < PLACES; in++)
-        for (enum place out = AT_START; out < PLACES; out++)
-            call(t, in, out, output_length);
+    for (uint32_t set = ENGLISH; set < SETS; set++)
+        for (enum place in = AT_START; in < PLACES; in++)
+            for (enum place out = AT_START; out < PLACES; out++)
+                call(t, in, out, output_length, set);
+    for (size_t i = 0; i < sizeof no_set / sizeof no_set[0]; i++)
+        call(t, AT_END, AT_END, output_length, no_set[i]);
 }
 
 /* None, too short by one, exactly enough, more than enough. */
@@ -278,7 +296,7 @@ static void attack(const char *name, const uint8_t *bytes, size_t length)
     struct text t = new_text(name, bytes, length);
 
     call_edges(&t);
-    free(t.log);
+    free_text(&t);
 }
 
 /* ---- inputs ---- */
@@ -306,7 +324,7 @@ static void every_output(const uint8_t *bytes, size_t length)
 
     for (size_t n = 0; n <= (t.lines + 1) * S5933_LINE_ROOM + 1; n++)
         call_placed(&t, n);
-    free(t.log);
+    free_text(&t);
 }
 
 /* The first lines of the mixed text, with the last LF and without it. */
@@ -386,10 +404,12 @@ static void only_lfs(const uint8_t *bytes)
     struct text t = new_text("LFs, most", bytes, S5933_INPUT_MOST);
     size_t enough = t.lines * S5933_LINE_ROOM;
 
-    call(&t, AT_END, AT_END, enough - 1);
-    call(&t, AT_END, AT_END, enough);
-    call(&t, AT_START, AT_START, enough);
-    free(t.log);
+    call(&t, AT_END, AT_END, enough - 1, ENGLISH);
+    call(&t, AT_END, AT_END, enough - 1, SETS);
+    call(&t, AT_END, AT_END, enough, ENGLISH);
+    call(&t, AT_END, AT_END, enough, GERMAN);
+    call(&t, AT_START, AT_START, enough, GERMAN);
+    free_text(&t);
 }
 
 /* The longest input and one byte more: of one line, of LFs only, of any

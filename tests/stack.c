@@ -1,6 +1,6 @@
 /* stack.c: how many bytes of stack the C call uses.
  *
- *   stack MOST    exit status 0 if it uses at most MOST
+ *   stack MOST    exit status 0 if it uses at most MOST under any set
  *
  * The call runs on a stack of its own, filled with a pattern; what it uses
  * reaches down to the lowest byte changed. */
@@ -20,6 +20,7 @@ static const char text[] =
     "0600000000000\n";
 static uint8_t stack[STACK_SIZE], output[sizeof text * S5933_LINE_ROOM];
 static ucontext_t here, there;
+static uint32_t set;            /* of the call's labels */
 static int64_t returned;
 
 static void nothing(void)
@@ -29,7 +30,7 @@ static void nothing(void)
 static void call(void)
 {
     returned = s5933_log((const uint8_t *)text, sizeof text - 1, output,
-                         sizeof output);
+                         sizeof output, set);
 }
 
 static size_t used_by(void (*function)(void))
@@ -50,13 +51,27 @@ static size_t used_by(void (*function)(void))
     return sizeof stack - low;
 }
 
+/* The most that a call uses under any set; 0 if one refuses. */
+static size_t used_by_calls(void)
+{
+    size_t none = used_by(nothing), most = 0;
+
+    for (set = S5933_ENGLISH; set <= S5933_GERMAN; set++) {
+        size_t used = used_by(call) - none;
+
+        if (returned <= 0)
+            return 0;
+        most = used > most ? used : most;
+    }
+    return most;
+}
+
 int main(int argc, char **argv)
 {
-    size_t none = used_by(nothing);
-    size_t used = used_by(call) - none;
+    size_t used = used_by_calls();
 
-    if (argc != 2 || returned <= 0) {
-        fputs("usage: stack MOST\n", stderr);
+    if (argc != 2 || used == 0) {
+        fputs(argc != 2 ? "usage: stack MOST\n" : "stack: refused\n", stderr);
         return 2;
     }
     printf("stack: %zu bytes\n", used);

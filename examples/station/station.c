@@ -1,12 +1,13 @@
 /*
  * station.c: the fault history of a frame file.
  *
- *   station FRAMES
+ *   station FRAMES [english|german]
  *
  * Runs the file's lines through the S5933 model and prints, for each code
  * other than 0 that was answered, how often it was, and the line and the
  * address of the first and of the last time. The history is kept by the
- * code; the label is only shown.
+ * code; the label, in the language asked for, is only shown. The file has
+ * no set line: every line of it is a frame, or answered by code 14.
  */
 #include "s5933.h"
 
@@ -41,6 +42,15 @@ struct fault {
 struct history {
     size_t lines;
     struct fault of[CODES];     /* by the code */
+};
+
+/* The languages of the labels, by the words that the user says. */
+static const struct language {
+    const char *word;
+    uint32_t set;
+} languages[] = {
+    { "english", S5933_ENGLISH },       /* the first if none is given */
+    { "german", S5933_GERMAN }
 };
 
 static void complain(const char *what, const char *why)
@@ -152,8 +162,18 @@ static void show(const struct history *h)
     }
 }
 
+/* The language of the word; NULL if there is none. */
+static const struct language *language_named(const char *word)
+{
+    for (size_t i = 0; i < sizeof languages / sizeof languages[0]; i++)
+        if (strcmp(word, languages[i].word) == 0)
+            return &languages[i];
+    return NULL;
+}
+
 /* Runs the frames and shows their history; 0 if anything went wrong. */
-static int run(const char *name, const uint8_t *frames, size_t length)
+static int run(const char *name, const uint8_t *frames, size_t length,
+               uint32_t set)
 {
     static struct history history;
     size_t room = count_lines(frames, length) * S5933_LINE_ROOM;
@@ -165,9 +185,11 @@ static int run(const char *name, const uint8_t *frames, size_t length)
         complain(name, "no memory for the log");
         return 0;
     }
-    written = s5933_log(frames, length, log, room);
+    written = s5933_log(frames, length, log, room, set);
     if (written == S5933_INPUT_TOO_LONG)
         complain(name, "longer than 1048576 bytes");
+    else if (written == S5933_UNKNOWN_SET)
+        complain(name, "labels of an unknown set were asked for");
     else if (written == S5933_NO_ROOM)
         complain(name, "too little room for the log");
     else if (written < 0 || (uint64_t)written > room
@@ -183,18 +205,21 @@ static int run(const char *name, const uint8_t *frames, size_t length)
 
 int main(int argc, char **argv)
 {
+    const struct language *language = languages;
     uint8_t *frames;
     size_t length = 0;
     int good;
 
-    if (argc != 2) {
-        fputs("usage: station FRAMES\n", stderr);
+    if (argc == 3)
+        language = language_named(argv[2]);
+    if (argc < 2 || argc > 3 || language == NULL) {
+        fputs("usage: station FRAMES [english|german]\n", stderr);
         return 2;
     }
     frames = read_file(argv[1], &length);
     if (frames == NULL)
         return 1;
-    good = run(argv[1], frames, length);
+    good = run(argv[1], frames, length, language->set);
     free(frames);
     if (fflush(stdout) != 0 || ferror(stdout)) {
         complain("standard output", strerror(errno));
