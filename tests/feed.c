@@ -1,18 +1,26 @@
 /* feed.c: gives a command its standard input in a chosen way.
  *
  *   feed answers COMMAND... < frames   each line is sent only when the one
- *                                      before it has been answered
+ *                                      before it has been answered; the
+ *                                      first is the set line, which isn't
+ *   feed late:SIZE COMMAND... < frames SIZE bytes, then nothing for a while,
+ *                                      during which nothing may come; then
+ *                                      as with answers
+ *   feed open COMMAND... < frames      all of it, and no end of the input
+ *                                      before the command has ended
  *   feed SIZE COMMAND... < frames      pieces of SIZE bytes, each of which
  *                                      is one read of the command, whose
  *                                      buffer must not be shorter
  *   feed cut COMMAND... < frames       all of it, and then a read fails
  *
  * What the command writes goes to standard output. Ends with the command's
- * exit status; with 3 if nothing happens for some seconds, 4 if a call of
- * the system fails. */
+ * exit status; with 64 if nothing happens for some seconds, 65 if a call of
+ * the system fails, 66 if something came too early. */
 #define _GNU_SOURCE
 #include <fcntl.h>
+#include <poll.h>
 #include <signal.h>
+#include <stdbool.h>
 #include <stdio.h>
 #include <stdlib.h>
 #include <string.h>
@@ -20,7 +28,14 @@
 #include <sys/wait.h>
 #include <unistd.h>
 
-enum { PATIENCE = 20, TEXT_MOST = 1 << 20 };
+enum { PATIENCE = 20, A_WHILE_MS = 1500, TEXT_MOST = 1 << 20 };
+enum { NO_ANSWER = 64, NO_CALL, TOO_EARLY };
+
+/* A command with pipes to its standard input and from its output. */
+struct piped {
+    pid_t child;
+    int to, from;
+};
 
 static void give_up(int signal)
 {
@@ -28,13 +43,13 @@ static void give_up(int signal)
     ssize_t n = write(STDERR_FILENO, message, sizeof message - 1);
 
     (void)signal;
-    _exit(n < 0 ? 4 : 3);
+    _exit(n < 0 ? NO_CALL : NO_ANSWER);
 }
 
 static void fail(const char *what)
 {
     perror(what);
-    exit(4);
+    exit(NO_CALL);
 }
 
 /* Starts the command with these two as its standard input and output. */
@@ -93,30 +108,71 @@ static int pass_line(int from)
     return n > 0;
 }
 
-static int feed_answers(char **command, const char *text, size_t n)
+static struct piped start_piped(char **command)
 {
     int in[2], out[2];
-    pid_t child;
+    struct piped p;
 
     if (pipe2(in, O_CLOEXEC) != 0 || pipe2(out, O_CLOEXEC) != 0)
         fail("pipe");
-    child = start(command, in[0], out[1]);
+    p = (struct piped){ start(command, in[0], out[1]), in[1], out[0] };
     close(in[0]);
     close(out[1]);
-    while (n > 0) {
-        const char *lf = memchr(text, '\n', n);
-        size_t line = lf == NULL ? n : (size_t)(lf - text) + 1;
+    return p;
+}
 
-        send_all(in[1], text, line);
-        text += line;
-        n -= line;
-        if (lf != NULL && !pass_line(out[0]))
+/* Nothing may come, and the command may not end, for a while. */
+static void see_silence(int from)
+{
+    struct pollfd end = { .fd = from, .events = POLLIN };
+
+    alarm(PATIENCE);
+    if (poll(&end, 1, A_WHILE_MS) == 0)
+        return;
+    fputs("feed: something came too early\n", stderr);
+    exit(TOO_EARLY);
+}
+
+/* The first bytes, silence, the rest of the set line, and then each line
+ * when the one before it has been answered. */
+static int feed_answers(char **command, const char *text, size_t n,
+                        size_t first)
+{
+    struct piped p = start_piped(command);
+    bool frames;
+
+    first = first < n ? first : n;
+    frames = memchr(text, '\n', first) != NULL;
+    send_all(p.to, text, first);
+    if (first > 0)
+        see_silence(p.from);
+    for (size_t at = first; at < n; frames = true) {
+        const char *lf = memchr(text + at, '\n', n - at);
+        size_t line = lf == NULL ? n - at : (size_t)(lf - text) + 1 - at;
+
+        send_all(p.to, text + at, line);
+        at += line;
+        if (frames && lf != NULL && !pass_line(p.from))
             break;
     }
-    close(in[1]);
-    while (pass_line(out[0]))
+    close(p.to);
+    while (pass_line(p.from))
         continue;
-    return status_of(child);
+    return status_of(p.child);
+}
+
+/* The input's end comes only when the command has ended. */
+static int feed_open(char **command, const char *text, size_t n)
+{
+    struct piped p = start_piped(command);
+    int status;
+
+    send_all(p.to, text, n);
+    while (pass_line(p.from))
+        continue;
+    status = status_of(p.child);
+    close(p.to);
+    return status;
 }
 
 /* A socket of this type keeps the pieces apart; what a read has no room
@@ -159,24 +215,36 @@ static int feed_cut(char **command, const char *text, size_t n)
     return status_of(child);
 }
 
+/* Feeds the command in the way that the word says; -1 if it says none. */
+static int feed(const char *how, char **command, const char *text, size_t n)
+{
+    long size = strtol(how, NULL, 10);
+
+    if (strcmp(how, "answers") == 0)
+        return feed_answers(command, text, n, 0);
+    if (strncmp(how, "late:", 5) == 0)
+        return feed_answers(command, text, n, strtoul(how + 5, NULL, 10));
+    if (strcmp(how, "open") == 0)
+        return feed_open(command, text, n);
+    if (strcmp(how, "cut") == 0)
+        return feed_cut(command, text, n);
+    return size > 0 ? feed_pieces(command, text, n, (size_t)size) : -1;
+}
+
 int main(int argc, char **argv)
 {
     static char text[TEXT_MOST];
     size_t n = fread(text, 1, sizeof text, stdin);
-    long size = argc > 2 ? strtol(argv[1], NULL, 10) : 0;
-    int status;
+    int status = -1;
 
     signal(SIGALRM, give_up);
     signal(SIGPIPE, SIG_IGN);
-    if (argc > 2 && strcmp(argv[1], "answers") == 0) {
-        status = feed_answers(argv + 2, text, n);
-    } else if (argc > 2 && strcmp(argv[1], "cut") == 0) {
-        status = feed_cut(argv + 2, text, n);
-    } else if (size > 0) {
-        status = feed_pieces(argv + 2, text, n, (size_t)size);
-    } else {
-        fputs("usage: feed answers|SIZE|cut COMMAND... < frames\n", stderr);
+    if (argc > 2)
+        status = feed(argv[1], argv + 2, text, n);
+    if (status < 0) {
+        fputs("usage: feed answers|late:SIZE|open|SIZE|cut COMMAND... "
+              "< frames\n", stderr);
         return 2;
     }
-    return fflush(stdout) == 0 ? status : 4;
+    return fflush(stdout) == 0 ? status : NO_CALL;
 }
