@@ -69,7 +69,7 @@ older() {
 
 # The log program and the archive, built if a source is newer; prints what is wrong.
 build_rattle() {
-    ./s5933-log </dev/null >"$work/rattle" 2>&1 || { cat "$work/rattle"; return; }
+    echo 00 | ./s5933-log >"$work/rattle" 2>&1 || { cat "$work/rattle"; return; }
     older "$archive" || return 0
     rt staticlib station >"$work/rattle" 2>&1 || tail -n 20 "$work/rattle"
 }
@@ -84,17 +84,24 @@ compile_x86() {
     "$x86_cc" -std=c11 -O2 "${warnings[@]}" -static -Iinclude -o "$@"
 }
 
-# run_log FRAMES LOG: the log program; prints what is wrong.
+# run_log FRAMES LOG [STATUS]: the log program, which is to end with the status, or 0; prints what is wrong.
 run_log() {
-    timeout 600 ./s5933-log <"$1" >"$2" 2>"$work/errors" || echo "s5933-log ended with status $?: $(head -c 300 "$work/errors")"
+    local status=0
+    timeout 600 ./s5933-log <"$1" >"$2" 2>"$work/errors" || status=$?
+    [ "$status" = "${3:-0}" ] || echo "s5933-log ended with status $status, not ${3:-0}: $(head -c 300 "$work/errors")"
 }
 
-# first_difference FRAMES LOG OTHER [NAME]: the first line in which two logs differ, with its frame. NAME says whose the other log
-# is; the second program's, if it isn't given.
+# frames_of FILE: what follows its set line.
+frames_of() {
+    tail -n +2 "$1"
+}
+
+# first_difference FRAMES LOG OTHER [NAME]: the first line in which two logs differ, with its frame, which is one line further down
+# its file. NAME says whose the other log is; the second program's, if it isn't given.
 first_difference() {
     local n
     n=$(awk -v other="$3" '{ if ((getline line <other) <= 0 || line != $0) exit } { same = NR } END { print same + 1 }' "$2")
-    echo "line $n, frame:   $(sed -n "${n}p" "$1" | head -c 60 | cat -v)"
+    echo "line $n, frame:   $(sed -n "$((n + 1))p" "$1" | head -c 60 | cat -v) (set $(head -n 1 "$1" | head -c 20 | cat -v))"
     echo "line $n, program: $(sed -n "${n}p" "$2" | head -c 60 | cat -v)"
     echo "line $n, ${4:-second}:  $(sed -n "${n}p" "$3" | head -c 60 | cat -v)"
 }
