@@ -17,6 +17,7 @@
  * exit status; with 64 if nothing happens for some seconds, 65 if a call of
  * the system fails, 66 if something came too early. */
 #define _GNU_SOURCE
+#include <errno.h>
 #include <fcntl.h>
 #include <poll.h>
 #include <signal.h>
@@ -79,17 +80,21 @@ static int status_of(pid_t child)
     return WIFEXITED(status) ? WEXITSTATUS(status) : 128;
 }
 
-static void send_all(int to, const char *bytes, size_t n)
+/* False if the command no longer reads: its log and status tell why. */
+static bool send_all(int to, const char *bytes, size_t n)
 {
     alarm(PATIENCE);
     while (n > 0) {
         ssize_t sent = write(to, bytes, n);
 
+        if (sent < 0 && (errno == EPIPE || errno == ECONNRESET))
+            return false;
         if (sent < 0)
             fail("write");
         bytes += sent;
         n -= (size_t)sent;
     }
+    return true;
 }
 
 /* Passes on what comes until a line has ended; 0 at the end. */
@@ -150,7 +155,8 @@ static int feed_answers(char **command, const char *text, size_t n,
         const char *lf = memchr(text + at, '\n', n - at);
         size_t line = lf == NULL ? n - at : (size_t)(lf - text) + 1 - at;
 
-        send_all(p.to, text + at, line);
+        if (!send_all(p.to, text + at, line))
+            break;
         at += line;
         if (frames && lf != NULL && !pass_line(p.from))
             break;
@@ -190,7 +196,8 @@ static int feed_pieces(char **command, const char *text, size_t n,
     while (n > 0) {
         size_t piece = n < size ? n : size;
 
-        send_all(ends[0], text, piece);
+        if (!send_all(ends[0], text, piece))
+            break;
         text += piece;
         n -= piece;
     }
