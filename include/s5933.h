@@ -40,7 +40,7 @@ extern "C" {
  *
  * Returns, the first that applies,
  *   S5933_INPUT_TOO_LONG (-2) if the input exceeds 1,048,576 bytes;
- *   S5933_UNKNOWN_SET (-3) if the set is any other number, for empty input too;
+ *   S5933_UNKNOWN_SET (-3) if the set is neither S5933_ENGLISH nor S5933_GERMAN, for empty input too;
  *   S5933_NO_ROOM (-1) if the output has fewer than 40 bytes for each line of the input;
  *   the number of bytes of the log, 0 for empty input.
  *
