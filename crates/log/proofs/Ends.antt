@@ -37,9 +37,9 @@ module _ (st : State) (start : ℕ) (memory : List ℕ) where
   fed-answers text = sym (length-append (fed text .answers) (ended text .answers)) ∙ ap (λ (t : Told). length (t .answers)) (sym (text-fed text)) ∙ told-length st start memory (lines text)
 
 -- a piece, then the end
-pub then-ends : (start : ℕ) {f : Fed} {r q : Streaming} {memory′ memory″ out out′ out″ : List ℕ} {at : ℕ} → Feeds f r memory′ out at out′
-    → Leaves (toldOf (stateOf (r .stream .controller)) start memory′ (linesFrom (begunOf (r .stream)) [])) q memory″ out′ (r .next) out″
-    → Leaves (after (f .answers) (toldOf (f .state) start (f .memory) (linesFrom (f .begun) []))) q memory″ out at out″
-then-ends start w e =
+pub then-ends : (set start : ℕ) {f : Fed} {r q : Streaming} {memory′ memory″ out out′ out″ : List ℕ} {at : ℕ} → Feeds set f r memory′ out at out′
+    → Leaves set (toldOf (stateOf (r .stream .controller)) start memory′ (linesFrom (begunOf (r .stream)) [])) q memory″ out′ (r .next) out″
+    → Leaves set (after (f .answers) (toldOf (f .state) start (f .memory) (linesFrom (f .begun) []))) q memory″ out at out″
+then-ends set start w e =
     let l = rw (w .state, w .memory, w .begun) at e in
     record { state = l .state; memory = l .memory; log = rw log-append (wrote-then (w .log) (l .log)) }

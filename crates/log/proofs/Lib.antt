@@ -9,3 +9,4 @@ pub mod Pieces
 pub mod Turns
 pub mod Ends
 pub mod Unique
+pub mod Cut

@@ -8,12 +8,9 @@ use native.Mathlib.Omega.{arith}
 use borrow.Author.Tests.{lt-ltb, le-ltb}
 use lib.ListN.{length}
 use lib.Seq.{sets-eq}
-use Rattle.machine.specs.declared.Answer.{Answer}
 use Rattle.logline.specs.LogLine.{lineRoom}
 use Rattle.logline.specs.Wrote.{Wrote}
-use Rattle.log.specs.Log.{logOf}
 use Rattle.log.specs.Results.{isShort, withLog}
-use Rattle.log.proofs.Told.{log-length}
 
 module _ (most : ℕ) (out : List ℕ) where
   pub short : length out / lineRoom < most → isShort most out ≡ true
@@ -25,10 +22,10 @@ module _ (most : ℕ) (out : List ℕ) where
   long h = le-ltb (length out) (lineRoom * most) (omega arith)
 
 -- what is written from the output's start, with room for it
-module _ (answers : List Answer) {out out′ : List ℕ} {r : ℕ} (w : Wrote out 0 (logOf answers) r out′) where
-  pub log-end : r ≡ length (logOf answers)
-  log-end = w .next ∙ zero-add (length (logOf answers))
+module _ {log out out′ : List ℕ} {r : ℕ} (w : Wrote out 0 log r out′) where
+  pub log-end : r ≡ length log
+  log-end = w .next ∙ zero-add (length log)
 
-  pub with-log : lineRoom * length answers ≤ length out → out′ ≡ withLog answers out
+  pub with-log : length log ≤ length out → out′ ≡ withLog log out
   unfolding withLog
-  with-log h = w .over ∙ sets-eq (logOf answers) out 0 (omega (arith, log-length answers)) ∙ rw zero-add
+  with-log h = w .over ∙ sets-eq log out 0 (omega arith) ∙ rw zero-add

@@ -42,14 +42,14 @@ told-append st start memory (line ∷ xs) ys =
     ap (λ (t : Told). after (o .answer ∷ []) t) (told-append (o .state) start (o .memory) xs ys)
 
 pub texts-joined : TextsJoined
-texts-joined st start memory a b first e =
+texts-joined set st start memory a b first e =
     let first-lines = lines (a ++ (10 ∷ [])) in
     let whole = ap (toldOf st start memory) (lines-join [] a b) ∙ told-append st start memory first-lines (lines b) in
     rw e
     (record {
       state = ap (λ (t : Told). t .state) whole;
       memory = ap (λ (t : Told). t .memory) whole;
-      log = ap (λ (t : Told). logOf (t .answers)) whole ∙ log-append (toldOf st start memory first-lines .answers) _;
+      log = ap (λ (t : Told). logOf set (t .answers)) whole ∙ log-append set (toldOf st start memory first-lines .answers) _;
     })
 
 -- ---- as a run

@@ -15,17 +15,17 @@ use Rattle.log.specs.Promises.{LogAppend}
 
 pub log-append : LogAppend
 unfolding logOf
-log-append [] ys = refl
-log-append (a ∷ xs) ys = ap (λ (l : List ℕ). logLine a ++ l) (log-append xs ys) ∙ sym (append-assoc (logLine a) (logOf xs) (logOf ys))
+log-append set [] ys = refl
+log-append set (a ∷ xs) ys = ap (λ (l : List ℕ). logLine set a ++ l) (log-append set xs ys) ∙ sym (append-assoc (logLine set a) (logOf set xs) (logOf set ys))
 
-pub log-one : (a : Answer) → logOf (a ∷ []) ≡ logLine a
+pub log-one : (set : ℕ) (a : Answer) → logOf set (a ∷ []) ≡ logLine set a
 unfolding logOf
-log-one a = append-nil (logLine a)
+log-one set a = append-nil (logLine set a)
 
-pub log-length : (xs : List Answer) → length (logOf xs) ≤ lineRoom * length xs
+pub log-length : (set : ℕ) (xs : List Answer) → length (logOf set xs) ≤ lineRoom * length xs
 unfolding logOf
-log-length [] = zero-le
-log-length (a ∷ xs) = rw length-append (omega (arith, line-fits a, log-length xs))
+log-length set [] = zero-le
+log-length set (a ∷ xs) = rw length-append (omega (arith, line-fits set a, log-length set xs))
 
 pub told-length : (st : State) (start : ℕ) (memory : List ℕ) (ls : List (List ℕ)) → length (toldOf st start memory ls .answers) ≡ length ls
 unfolding toldOf

@@ -4,7 +4,7 @@ use Rattle.log.specs.Results.{TextRun, Piece}
 use Rattle.log.specs.Unique.{RunUnique, FeedUnique}
 
 pub run-unique : RunUnique
-run-unique c start memory text out r q memory′ memory″ out′ out″ p o =
+run-unique set c start memory text out r q memory′ memory″ out′ out″ p o =
     let same = p .ran ∙ sym (o .ran) in
     record {
       state = ap (λ (v : TextRun). v .state) same;
@@ -15,7 +15,7 @@ run-unique c start memory text out r q memory′ memory″ out′ out″ p o =
     }
 
 pub feed-unique : FeedUnique
-feed-unique s start memory piece out r q memory′ memory″ out′ out″ p o =
+feed-unique set s start memory piece out r q memory′ memory″ out′ out″ p o =
     let same = p .fed ∙ sym (o .fed) in
     record {
       state = ap (λ (v : Piece). v .state) same;

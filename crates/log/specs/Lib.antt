@@ -2,3 +2,4 @@ pub mod Log
 pub mod Results
 pub mod Promises
 pub mod Unique
+pub mod Cut

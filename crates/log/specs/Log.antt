@@ -15,10 +15,10 @@ use Rattle.logline.specs.LogLine.{logLine}
 unfoldable pub lineOutcome : State → ℕ → List ℕ → List ℕ → Outcome
 lineOutcome st start memory line = framedOutcome (frameOf line) st start memory
 
--- each answer has one log line
-unfoldable pub logOf : List Answer → List ℕ
-logOf [] = []
-logOf (a ∷ more) = logLine a ++ logOf more
+-- each answer has one log line, with the label of a set
+unfoldable pub logOf : ℕ → List Answer → List ℕ
+logOf set [] = []
+logOf set (a ∷ more) = logLine set a ++ logOf set more
 
 -- ---- a text
 

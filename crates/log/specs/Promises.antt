@@ -14,6 +14,7 @@ use Rattle.lines.specs.Lines.{lf, lines}
 use Rattle.frame.specs.declared.Framed.{Framed}
 use Rattle.frame.specs.declared.Framed.the-variants.{Frame, NotAFrame}
 use Rattle.frame.specs.Frame.{frameOf}
+use Rattle.logline.specs.Labels.{englishSet}
 use Rattle.logline.specs.LogLine.{logBody}
 use Rattle.log.specs.Log.{logOf, Told, toldOf, after, textTold, fedOf}
 
@@ -25,24 +26,24 @@ OneAnswerEach = (st : State) (start : ℕ) (memory text : List ℕ) → length (
 
 -- `one-line-each`: the log, read as a text, has one line for each answer, and that line is the answer's
 abbrev pub OneLineEach : Type 0
-OneLineEach = (answers : List Answer) → lines (logOf answers) ≡ map logBody answers
+OneLineEach = (set : ℕ) (answers : List Answer) → lines (logOf set answers) ≡ map (logBody set) answers
 
 -- ---- texts joined, and a text in pieces
 
 -- `log-append`: the log of answers joined is their logs joined
 abbrev pub LogAppend : Type 0
-LogAppend = (xs ys : List Answer) → logOf (xs ++ ys) ≡ logOf xs ++ logOf ys
+LogAppend = (set : ℕ) (xs ys : List Answer) → logOf set (xs ++ ys) ≡ logOf set xs ++ logOf set ys
 
 -- `texts-joined`: the log of two texts joined after an LF is that of the first, then that of the second from the state the first leaves
-pub record Joined (whole first second : Told) : Type 0 where
+pub record Joined (set : ℕ) (whole first second : Told) : Type 0 where
   pub state : whole .state ≡ second .state
   pub memory : whole .memory ≡ second .memory
-  pub log : logOf (whole .answers) ≡ logOf (first .answers) ++ logOf (second .answers)
+  pub log : logOf set (whole .answers) ≡ logOf set (first .answers) ++ logOf set (second .answers)
 
 abbrev pub TextsJoined : Type 0
 TextsJoined =
-    (st : State) (start : ℕ) (memory a b : List ℕ) (first : Told) → first ≡ textTold st start memory (a ++ (lf ∷ []))
-    → Joined (textTold st start memory (a ++ (lf ∷ []) ++ b)) first (textTold (first .state) start (first .memory) b)
+    (set : ℕ) (st : State) (start : ℕ) (memory a b : List ℕ) (first : Told) → first ≡ textTold st start memory (a ++ (lf ∷ []))
+    → Joined set (textTold st start memory (a ++ (lf ∷ []) ++ b)) first (textTold (first .state) start (first .memory) b)
 
 -- pieces one after the other
 abbrev pub joined : List (List ℕ) → List ℕ
@@ -92,9 +93,9 @@ TextRuns = (st : State) (start : ℕ) (memory : List ℕ) (ls : List (List ℕ))
 
 -- ---- the worked frames
 
--- the log of a text as the log program has it: "from reset, with 4,096 zero words of memory at address 0"
-unfoldable pub programLog : List ℕ → List ℕ
-programLog text = logOf (textTold resetState 0 zeroWords text .answers)
+-- the log of a text under a set as the log program has it: from reset, with 4,096 zero words of memory at address 0
+unfoldable pub programLog : ℕ → List ℕ → List ℕ
+programLog set text = logOf set (textTold resetState 0 zeroWords text .answers)
 
 abbrev pub workedFrames : List ℕ
 workedFrames = bytes "03101000000A5\n0034F00000000\n0010100000000\n0020F00000000\nxyz"
@@ -104,7 +105,14 @@ workedLog = bytes "00000000000000000000 done\n00000000000001000000 done\n0000000
 
 -- `worked-hold`
 abbrev pub WorkedHold : Type 0
-WorkedHold = programLog workedFrames ≡ workedLog
+WorkedHold = programLog englishSet workedFrames ≡ workedLog
+
+-- `german-hold`: the same frames under the German set
+abbrev pub germanLog : List ℕ
+germanLog = bytes "00000000000000000000 erledigt\n00000000000001000000 erledigt\n0000000000000000A500 erledigt\n08000000000000000000 FIFO voll/leer\n0E000000000000000000 keine Rahmenzeile\n"
+
+abbrev pub GermanHold : Type 0
+GermanHold = programLog 1 workedFrames ≡ germanLog
 
 -- A second text: an empty line, CR before LF, 12 digits, 14, a lower-case digit; then frames that end in a write cycle, so that every number of
 -- a log line is seen; an empty line with the interrupt line set; at the end a frame without LF.
@@ -122,7 +130,7 @@ secondLog =
 
 -- `second-hold`; and LFs alone are as many empty lines, with none after the last
 abbrev pub SecondHold : Type 0
-SecondHold = (programLog secondFrames ≡ secondLog) × (programLog (bytes "\n\n") ≡ bytes "0E000000000000000000 not a frame line\n0E000000000000000000 not a frame line\n")
+SecondHold = (programLog englishSet secondFrames ≡ secondLog) × (programLog englishSet (bytes "\n\n") ≡ bytes "0E000000000000000000 not a frame line\n0E000000000000000000 not a frame line\n")
 
 -- "One that handles the first frame and only echoes the rest"
 abbrev pub echo : List (List ℕ) → List ℕ
@@ -131,7 +139,7 @@ echo (line ∷ more) = line ++ (lf ∷ []) ++ echo more
 
 abbrev pub echoing : List (List ℕ) → List ℕ
 echoing [] = []
-echoing (line ∷ more) = logOf (toldOf resetState 0 zeroWords (line ∷ []) .answers) ++ echo more
+echoing (line ∷ more) = logOf englishSet (toldOf resetState 0 zeroWords (line ∷ []) .answers) ++ echo more
 
 -- `echoing-fails`: it fails the worked frames
 abbrev pub EchoingFails : Type 0

@@ -28,9 +28,9 @@ use Rattle.log.specs.Log.{Told, Fed, logOf, textTold, answering, fedOf}
 unfoldable pub isShort : ℕ → List ℕ → Bool
 isShort most out = ltb (length out) (lineRoom * most)
 
--- the log stands at the start of the output, and the bytes past it are as they were
-unfoldable pub withLog : List Answer → List ℕ → List ℕ
-withLog answers out = logOf answers ++ drop (length (logOf answers)) out
+-- a log stands at the start of the output, and the bytes past it are as they were
+unfoldable pub withLog : List ℕ → List ℕ → List ℕ
+withLog log out = log ++ drop (length log) out
 
 -- a number of bytes that is answered is one that the output has
 unfoldable pub isWithin : Logged → List ℕ → Bool
@@ -47,16 +47,17 @@ pub record TextRun : Type 0 where
   pub log : Logged
 
 -- too little room is an answer of its own: nothing is done, and no byte is written
-unfoldable pub textRun : State → ℕ → List ℕ → List ℕ → List ℕ → TextRun
-textRun st start memory text out =
+unfoldable pub textRun : ℕ → State → ℕ → List ℕ → List ℕ → List ℕ → TextRun
+textRun set st start memory text out =
     let t = textTold st start memory text in
+    let log = logOf set (t .answers) in
     cond (isShort (length (lines text)) out)
     (record { state = st; memory = memory; out = out; log = NoRoom })
-    (record { state = t .state; memory = t .memory; out = withLog (t .answers) out; log = Written (length (logOf (t .answers))) })
+    (record { state = t .state; memory = t .memory; out = withLog log out; log = Written (length log) })
 
 -- what `run` promises; without room the controller comes back to the letter
-pub record RunPromised (c : Controller) (start : ℕ) (memory text out : List ℕ) (r : Ran) (memory′ out′ : List ℕ) : Type 0 where
-  pub ran : record { state = stateOf (r .controller); memory = memory′; out = out′; log = r .log } ≡ textRun (stateOf c) start memory text out
+pub record RunPromised (set : ℕ) (c : Controller) (start : ℕ) (memory text out : List ℕ) (r : Ran) (memory′ out′ : List ℕ) : Type 0 where
+  pub ran : record { state = stateOf (r .controller); memory = memory′; out = out′; log = r .log } ≡ textRun set (stateOf c) start memory text out
   pub refused : isShort (length (lines text)) out ≡ true → r .controller ≡ c
 
 -- ---- a piece
@@ -73,16 +74,17 @@ pub record Piece : Type 0 where
   pub log : Logged
 
 -- A piece may end a line at each byte, so it wants room for as many.
-unfoldable pub pieceOf : State → ℕ → List ℕ → List ℕ → List ℕ → List ℕ → Piece
-pieceOf st start memory begun piece out =
+unfoldable pub pieceOf : ℕ → State → ℕ → List ℕ → List ℕ → List ℕ → List ℕ → Piece
+pieceOf set st start memory begun piece out =
     let f = fedOf st start memory begun piece in
+    let log = logOf set (f .answers) in
     cond (isShort (length piece) out)
     (record { state = st; memory = memory; begun = begun; out = out; log = NoRoom })
-    (record { state = f .state; memory = f .memory; begun = f .begun; out = withLog (f .answers) out; log = Written (length (logOf (f .answers))) })
+    (record { state = f .state; memory = f .memory; begun = f .begun; out = withLog log out; log = Written (length log) })
 
 -- what `feed` promises; without room the stream comes back to the letter
-pub record FeedPromised (s : Stream) (start : ℕ) (memory piece out : List ℕ) (r : Streamed) (memory′ out′ : List ℕ) : Type 0 where
-  pub fed : record { state = stateOf (r .stream .controller); memory = memory′; begun = begunOf (r .stream); out = out′; log = r .log } ≡ pieceOf (stateOf (s .controller)) start memory (begunOf s) piece out
+pub record FeedPromised (set : ℕ) (s : Stream) (start : ℕ) (memory piece out : List ℕ) (r : Streamed) (memory′ out′ : List ℕ) : Type 0 where
+  pub fed : record { state = stateOf (r .stream .controller); memory = memory′; begun = begunOf (r .stream); out = out′; log = r .log } ≡ pieceOf set (stateOf (s .controller)) start memory (begunOf s) piece out
   pub refused : isShort (length piece) out ≡ true → r .stream ≡ s
 
 -- ---- inside: a piece with room for its log
@@ -106,13 +108,13 @@ pub record Takes (begun piece : List ℕ) (at : ℕ) (t : Turn) : Type 0 where
   pub whole : length (t .bytes) ≡ 14
   pub fed : (st : State) (start : ℕ) (memory : List ℕ) → fedOf st start memory begun (drop at piece) ≡ fedPast t st start memory (drop (t .next) piece)
 
-pub record Feeds (f : Fed) (r : Streaming) (memory′ out : List ℕ) (at : ℕ) (out′ : List ℕ) : Type 0 where
+pub record Feeds (set : ℕ) (f : Fed) (r : Streaming) (memory′ out : List ℕ) (at : ℕ) (out′ : List ℕ) : Type 0 where
   pub state : stateOf (r .stream .controller) ≡ f .state
   pub memory : memory′ ≡ f .memory
   pub begun : begunOf (r .stream) ≡ f .begun
-  pub log : Wrote out at (logOf (f .answers)) (r .next) out′
+  pub log : Wrote out at (logOf set (f .answers)) (r .next) out′
 
-pub record Leaves (t : Told) (r : Streaming) (memory′ out : List ℕ) (at : ℕ) (out′ : List ℕ) : Type 0 where
+pub record Leaves (set : ℕ) (t : Told) (r : Streaming) (memory′ out : List ℕ) (at : ℕ) (out′ : List ℕ) : Type 0 where
   pub state : stateOf (r .stream .controller) ≡ t .state
   pub memory : memory′ ≡ t .memory
-  pub log : Wrote out at (logOf (t .answers)) (r .next) out′
+  pub log : Wrote out at (logOf set (t .answers)) (r .next) out′

@@ -23,8 +23,8 @@ pub record SameRun (isRefused : Type 0) (r q : Ran) (memory memory′ out out′
 
 abbrev pub RunUnique : Type 0
 RunUnique =
-    (c : Controller) (start : ℕ) (memory text out : List ℕ) (r q : Ran) (memory′ memory″ out′ out″ : List ℕ)
-    → RunPromised c start memory text out r memory′ out′ → RunPromised c start memory text out q memory″ out″
+    (set : ℕ) (c : Controller) (start : ℕ) (memory text out : List ℕ) (r q : Ran) (memory′ memory″ out′ out″ : List ℕ)
+    → RunPromised set c start memory text out r memory′ out′ → RunPromised set c start memory text out q memory″ out″
     → SameRun (isShort (length (lines text)) out ≡ true) r q memory′ memory″ out′ out″
 
 -- `feed-unique`
@@ -38,6 +38,6 @@ pub record SameFeed (isRefused : Type 0) (r q : Streamed) (memory memory′ out 
 
 abbrev pub FeedUnique : Type 0
 FeedUnique =
-    (s : Stream) (start : ℕ) (memory piece out : List ℕ) (r q : Streamed) (memory′ memory″ out′ out″ : List ℕ)
-    → FeedPromised s start memory piece out r memory′ out′ → FeedPromised s start memory piece out q memory″ out″
+    (set : ℕ) (s : Stream) (start : ℕ) (memory piece out : List ℕ) (r q : Streamed) (memory′ memory″ out′ out″ : List ℕ)
+    → FeedPromised set s start memory piece out r memory′ out′ → FeedPromised set s start memory piece out q memory″ out″
     → SameFeed (isShort (length piece) out ≡ true) r q memory′ memory″ out′ out″

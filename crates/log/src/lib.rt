@@ -202,9 +202,10 @@ fn feed_bytes(
     piece: &[u8],
     out: &mut [u8],
     at: usize,
+    set: u32,
 ) -> Streaming
     requires { ⌜ at + lineRoom * length (fedOf (stateOf (s .controller)) start (now memory) (begunOf s) (now piece) .answers) ≤ length (now out) ⌝ }
-    ensures { λ r. ⌜ Feeds (fedOf (stateOf (s .controller)) start (now (memory .entry)) (begunOf s) (now (piece .entry))) r (now (memory .exit)) (now (out .entry)) at (now (out .exit)) ⌝ }
+    ensures { λ r. ⌜ Feeds set (fedOf (stateOf (s .controller)) start (now (memory .entry)) (begunOf s) (now (piece .entry))) r (now (memory .exit)) (now (out .entry)) at (now (out .exit)) ⌝ }
 {
     let mut c = s.controller;
     let mut bytes = s.bytes;
@@ -222,7 +223,7 @@ fn feed_bytes(
             let r = answer(c, memory, start, f);
             let next = r.controller;
             c = next;
-            n = logline::put_line(out, n, r.answer);
+            n = logline::put_line(out, n, r.answer, set);
         }
     }
     let stream = Stream {
@@ -233,10 +234,17 @@ fn feed_bytes(
     Streaming { stream, next: n }
 }
 
-// One piece: the log of the lines that end in it stands at the output's start. Where the output has fewer than 40 bytes for
-// each byte of the piece, nothing is done.
-pub fn feed(s: Stream, memory: &mut [u32], start: u32, piece: &[u8], out: &mut [u8]) -> Streamed
-    ensures { λ r. ⌜ FeedPromised s start (now (memory .entry)) (now (piece .entry)) (now (out .entry)) r (now (memory .exit)) (now (out .exit)) ⌝ }
+// One piece: the log of the lines that end in it stands at the output's start, with the labels of a set. Where the output has
+// fewer than 40 bytes for each byte of the piece, nothing is done.
+pub fn feed(
+    s: Stream,
+    memory: &mut [u32],
+    start: u32,
+    piece: &[u8],
+    out: &mut [u8],
+    set: u32,
+) -> Streamed
+    ensures { λ r. ⌜ FeedPromised set s start (now (memory .entry)) (now (piece .entry)) (now (out .entry)) r (now (memory .exit)) (now (out .exit)) ⌝ }
 {
     if out.len() / LINE_ROOM < piece.len() {
         return Streamed {
@@ -244,7 +252,7 @@ pub fn feed(s: Stream, memory: &mut [u32], start: u32, piece: &[u8], out: &mut [
             log: Logged::NoRoom,
         };
     }
-    let f = feed_bytes(s, memory, start, piece, out, 0);
+    let f = feed_bytes(s, memory, start, piece, out, 0, set);
     let stream = f.stream;
     Streamed {
         stream,
@@ -260,9 +268,16 @@ pub struct Ran {
 }
 
 // The end of a text ends a line that isn't empty, as an LF does.
-fn end_line(s: Stream, memory: &mut [u32], start: u32, out: &mut [u8], at: usize) -> Streaming
+fn end_line(
+    s: Stream,
+    memory: &mut [u32],
+    start: u32,
+    out: &mut [u8],
+    at: usize,
+    set: u32,
+) -> Streaming
     requires { ⌜ at + lineRoom * length (toldOf (stateOf (s .controller)) start (now memory) (linesFrom (begunOf s) []) .answers) ≤ length (now out) ⌝ }
-    ensures { λ r. ⌜ Leaves (toldOf (stateOf (s .controller)) start (now (memory .entry)) (linesFrom (begunOf s) [])) r (now (memory .exit)) (now (out .entry)) at (now (out .exit)) ⌝ }
+    ensures { λ r. ⌜ Leaves set (toldOf (stateOf (s .controller)) start (now (memory .entry)) (linesFrom (begunOf s) [])) r (now (memory .exit)) (now (out .entry)) at (now (out .exit)) ⌝ }
 {
     if s.len == 0 {
         return Streaming {
@@ -270,13 +285,20 @@ fn end_line(s: Stream, memory: &mut [u32], start: u32, out: &mut [u8], at: usize
             next: at,
         };
     }
-    feed_bytes(s, memory, start, b"\n", out, at)
+    feed_bytes(s, memory, start, b"\n", out, at, set)
 }
 
-// A text from a controller and memory on: the log stands at the output's start. Where the output has fewer than 40 bytes for
-// each line, nothing is done.
-pub fn run(c: Controller, memory: &mut [u32], start: u32, text: &[u8], out: &mut [u8]) -> Ran
-    ensures { λ r. ⌜ RunPromised c start (now (memory .entry)) (now (text .entry)) (now (out .entry)) r (now (memory .exit)) (now (out .exit)) ⌝ }
+// A text from a controller and memory on: the log stands at the output's start, with the labels of a set. Where the output has
+// fewer than 40 bytes for each line, nothing is done.
+pub fn run(
+    c: Controller,
+    memory: &mut [u32],
+    start: u32,
+    text: &[u8],
+    out: &mut [u8],
+    set: u32,
+) -> Ran
+    ensures { λ r. ⌜ RunPromised set c start (now (memory .entry)) (now (text .entry)) (now (out .entry)) r (now (memory .exit)) (now (out .exit)) ⌝ }
 {
     let n = lines::line_count(text);
     if out.len() / LINE_ROOM < n {
@@ -285,9 +307,9 @@ pub fn run(c: Controller, memory: &mut [u32], start: u32, text: &[u8], out: &mut
             log: Logged::NoRoom,
         };
     }
-    let f = feed_bytes(not_begun(c), memory, start, text, out, 0);
+    let f = feed_bytes(not_begun(c), memory, start, text, out, 0, set);
     let fed = f.stream;
-    let g = end_line(fed, memory, start, out, f.next);
+    let g = end_line(fed, memory, start, out, f.next, set);
     let stream = g.stream;
     let controller = stream.controller;
     Ran {
@@ -297,11 +319,11 @@ pub fn run(c: Controller, memory: &mut [u32], start: u32, text: &[u8], out: &mut
 }
 
 // The end of the text: the line that has not ended is run as a text.
-pub fn finish(s: Stream, memory: &mut [u32], start: u32, out: &mut [u8]) -> Ran
-    ensures { λ r. ⌜ RunPromised (s .controller) start (now (memory .entry)) (begunOf s) (now (out .entry)) r (now (memory .exit)) (now (out .exit)) ⌝ }
+pub fn finish(s: Stream, memory: &mut [u32], start: u32, out: &mut [u8], set: u32) -> Ran
+    ensures { λ r. ⌜ RunPromised set (s .controller) start (now (memory .entry)) (begunOf s) (now (out .entry)) r (now (memory .exit)) (now (out .exit)) ⌝ }
 {
     let bytes = s.bytes;
     let len = kept(s.len);
     let controller = s.controller;
-    run(controller, memory, start, &bytes[..len], out)
+    run(controller, memory, start, &bytes[..len], out, set)
 }

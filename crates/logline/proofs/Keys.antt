@@ -5,14 +5,14 @@ use mathlib.Core.Bool.{Bool, true, false, cond, _&&_}
 use mathlib.Core.List.{List, [], _∷_, _++_, append-assoc}
 use native.Mathlib.Omega.{arith}
 use lib.Dec.{eqb, lit<}
-use borrow.Author.Tests.{eqb-true, eq-eqb}
+use borrow.Author.Tests.{eqb-true, eq-eqb, ltb-true}
 use lib.ListN.{length, take, length-append}
 use lib.Seq.{take-append-seam, drop-append-seam}
 use Rattle.machine.specs.declared.Answer.{Answer}
 use Rattle.hex.specs.Hex.{bytes, digits, number}
 use Rattle.hex.proofs.Below.{below, below-at}
 use Rattle.hex.proofs.Numbers.{length-digits, number-digits}
-use Rattle.logline.specs.Labels.{labels, labelOf}
+use Rattle.logline.specs.Labels.{english, german, labelSets, isSet, labelOf}
 use Rattle.logline.specs.LogLine.{numbers, logBody, logLine}
 use Rattle.logline.specs.Promises.{LabelsDiffer, NumbersAreKey}
 
@@ -30,19 +30,22 @@ same-self [] = refl
 same-self (x ∷ xs) = rw (eq-eqb x x refl) (same-self xs)
 
 -- alike only if they are of one code
-alone : ℕ → ℕ → Bool
-alone code other = cond (same (labelOf code) (labelOf other)) (eqb code other) true
+alone : ℕ → ℕ → ℕ → Bool
+alone set code other = cond (same (labelOf set code) (labelOf set other)) (eqb code other) true
 
-all-alone : below (λ code. below (λ other. alone code other) 15) 15 ≡ true
-unfolding labelOf labels same alone
-all-alone = refl
+allAlone : ℕ → Bool
+allAlone set = below (λ code. below (λ other. alone set code other) 16) 16
+
+all-alone : (set : ℕ) → isSet set ≡ true → allAlone set ≡ true
+unfolding labelSets english german isSet labelOf same alone allAlone
+all-alone set s = below-at allAlone (length labelSets) set refl (ltb-true set (length labelSets) s)
 
 pub labels-differ : LabelsDiffer
-unfolding alone
-labels-differ code other h k e =
-    let row = below-at (λ c. below (λ o. alone c o) 15) 15 code all-alone h in
-    let one = below-at (λ o. alone code o) 15 other row k in
-    let like : same (labelOf code) (labelOf other) ≡ true = rw (← e) (same-self (labelOf code)) in
+unfolding alone allAlone
+labels-differ set code other s h k e =
+    let row = below-at (λ c. below (λ o. alone set c o) 16) 16 code (all-alone set s) h in
+    let one = below-at (λ o. alone set code o) 16 other row k in
+    let like : same (labelOf set code) (labelOf set other) ≡ true = rw (← e) (same-self (labelOf set code)) in
     eqb-true code other (rw like at one)
 
 -- ---- digits
@@ -67,16 +70,16 @@ length-numbers : (a : Answer) → length (numbers a) ≡ 20
 unfolding numbers
 length-numbers a = simp (length-append, length-digits)
 
-first-20 : (a : Answer) → take 20 (logLine a) ≡ numbers a
+first-20 : (set : ℕ) (a : Answer) → take 20 (logLine set a) ≡ numbers a
 unfolding logBody logLine
-first-20 a =
+first-20 set a =
     let n : length (numbers a) ≡ 20 = length-numbers a in
     rw (append-assoc (numbers a ++ bytes " "), append-assoc (numbers a), ← n) (take-append-seam (numbers a) _)
 
 pub numbers-are-key : NumbersAreKey
 unfolding numbers
-numbers-are-key a b f g e =
-    let all = sym (first-20 a) ∙ e ∙ first-20 b in
+numbers-are-key set other a b f g e =
+    let all = sym (first-20 set a) ∙ e ∙ first-20 other b in
     let c = digits 2 (a .code) in
     let c′ = digits 2 (b .code) in
     let d = c ++ digits 8 (a .address) in

@@ -12,22 +12,22 @@ use Rattle.logline.specs.LogLine.{logLine, lineRoom, lineIn}
 use Rattle.logline.specs.Promises.{LineRoom}
 use Rattle.logline.proofs.Labels.{line-fits}
 
-module _ (out : List ℕ) (at : ℕ) (a : Answer) where
-  pub in-room : at + lineRoom ≤ length out → lineIn out at a ≡ logLine a
+module _ (set : ℕ) (out : List ℕ) (at : ℕ) (a : Answer) where
+  pub in-room : at + lineRoom ≤ length out → lineIn set out at a ≡ logLine set a
   unfolding lineIn
   in-room h = simp (le-leb _ _ h)
 
-  pub no-room : length out < at + lineRoom → lineIn out at a ≡ []
+  pub no-room : length out < at + lineRoom → lineIn set out at a ≡ []
   unfolding lineIn
   no-room h = simp (lt-leb _ _ h)
 
-  fits-by : (t : Bool) → length (cond t (logLine a) []) ≤ lineRoom
-  fits-by true = omega (arith, line-fits a)
+  fits-by : (t : Bool) → length (cond t (logLine set a) []) ≤ lineRoom
+  fits-by true = omega (arith, line-fits set a)
   fits-by false = zero-le
 
-  pub line-in-fits : length (lineIn out at a) ≤ lineRoom
+  pub line-in-fits : length (lineIn set out at a) ≤ lineRoom
   unfolding lineIn
   line-in-fits = fits-by (leb (at + lineRoom) (length out))
 
 pub line-room : LineRoom
-line-room out at a = (in-room out at a, no-room out at a)
+line-room set out at a = (in-room set out at a, no-room set out at a)

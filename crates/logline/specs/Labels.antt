@@ -1,12 +1,14 @@
--- "Numbers a step can answer": the label of each code. The number is the key; the label only stands after it in a log line.
+-- The labels of the codes, in each language a set (document 02, Ask 1). The number is the key; the label only stands after it in a log line.
 use Prim.Native.Nat.{ℕ}
 use mathlib.Core.List.{List, [], _∷_}
-use lib.ListN.{getD}
+use mathlib.Core.Bool.{Bool}
+use lib.ListN.{length, getD}
+use lib.Dec.{ltb}
 use Rattle.hex.specs.Hex.{bytes}
 
--- in the order of the codes, 0 to 14
-unfoldable pub labels : List (List ℕ)
-labels =
+-- each set in the order of the codes, 0 to 15
+unfoldable pub english : List (List ℕ)
+english =
     bytes "done"
     ∷ bytes "state out of form"
     ∷ bytes "window out of form"
@@ -22,8 +24,40 @@ labels =
     ∷ bytes "FIFO not ready"
     ∷ bytes "no memory there"
     ∷ bytes "not a frame line"
+    ∷ bytes "unknown label set"
     ∷ []
 
--- no bytes for a number that no answer has
-unfoldable pub labelOf : ℕ → List ℕ
-labelOf code = getD labels code []
+unfoldable pub german : List (List ℕ)
+german =
+    bytes "erledigt"
+    ∷ bytes "Zustand ungueltig"
+    ∷ bytes "Fenster ungueltig"
+    ∷ bytes "Schritt unbekannt"
+    ∷ bytes "Offset unbekannt"
+    ∷ bytes "Freigabe ungueltig"
+    ∷ bytes "FIFO-Teilzugriff"
+    ∷ bytes "nur lesbar"
+    ∷ bytes "FIFO voll/leer"
+    ∷ bytes "Transfer aus"
+    ∷ bytes "Zaehler ist null"
+    ∷ bytes "Abbruch steht an"
+    ∷ bytes "FIFO nicht bereit"
+    ∷ bytes "kein Speicher dort"
+    ∷ bytes "keine Rahmenzeile"
+    ∷ bytes "Textsatz unbekannt"
+    ∷ []
+
+-- a set's number is its place here: 00 English, 01 German
+unfoldable pub labelSets : List (List (List ℕ))
+labelSets = english ∷ german ∷ []
+
+-- the set in which an unknown set is refused
+abbrev pub englishSet : ℕ
+englishSet = 0
+
+unfoldable pub isSet : ℕ → Bool
+isSet set = ltb set (length labelSets)
+
+-- no bytes for a number that no set or no answer has
+unfoldable pub labelOf : ℕ → ℕ → List ℕ
+labelOf set code = getD (getD labelSets set []) code []

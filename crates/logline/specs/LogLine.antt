@@ -12,18 +12,18 @@ use Rattle.logline.specs.Labels.{labelOf}
 unfoldable pub numbers : Answer → List ℕ
 numbers a = digits 2 (a .code) ++ digits 8 (a .address) ++ digits 8 (a .value) ++ digits 1 (a .enables) ++ digits 1 (cond (a .line) 1 0)
 
--- "then one space, the label of the code as fixed bytes"
-unfoldable pub logBody : Answer → List ℕ
-logBody a = numbers a ++ bytes " " ++ labelOf (a .code)
+-- then one space, and the label that the set has for the code
+unfoldable pub logBody : ℕ → Answer → List ℕ
+logBody set a = numbers a ++ bytes " " ++ labelOf set (a .code)
 
--- "and LF"
-unfoldable pub logLine : Answer → List ℕ
-logLine a = logBody a ++ bytes "\n"
+-- and LF
+unfoldable pub logLine : ℕ → Answer → List ℕ
+logLine set a = logBody set a ++ bytes "\n"
 
 -- "40 bytes for each input line": the most that a log line has
 abbrev pub lineRoom : ℕ
 lineRoom = 40
 
 -- the log line where there is room for any, from a place on, and nothing where there isn't
-unfoldable pub lineIn : List ℕ → ℕ → Answer → List ℕ
-lineIn out at a = cond (leb (at + lineRoom) (length out)) (logLine a) []
+unfoldable pub lineIn : ℕ → List ℕ → ℕ → Answer → List ℕ
+lineIn set out at a = cond (leb (at + lineRoom) (length out)) (logLine set a) []

@@ -2,27 +2,43 @@
 use Prim.Native.Nat.{ℕ, _+_, _≤_, _<_, _^_}
 use mathlib.Core.Path.{_≡_}
 use mathlib.Core.List.{List, []}
-use lib.ListN.{length, take}
+use mathlib.Core.Bool.{Bool, true, _&&_}
+use lib.ListN.{length, take, getD}
+use lib.Dec.{leb, ltb}
 use Rattle.machine.specs.declared.Answer.{Answer}
 use Rattle.logline.specs.Wrote.{Wrote}
-use Rattle.logline.specs.Labels.{labelOf}
+use Rattle.logline.specs.Labels.{labelSets, isSet, labelOf}
 use Rattle.logline.specs.LogLine.{logLine, lineIn}
 
--- `labels-short`: no label is above 18 bytes
+-- `labels-short`: no label is above 18 bytes, in any set
 abbrev pub LabelsShort : Type 0
-LabelsShort = (code : ℕ) → length (labelOf code) ≤ 18
+LabelsShort = (set code : ℕ) → length (labelOf set code) ≤ 18
 
--- `labels-differ`: no two of the fifteen are alike
+-- `labels-differ`: no two of a set are alike
 abbrev pub LabelsDiffer : Type 0
-LabelsDiffer = (code other : ℕ) → code < 15 → other < 15 → labelOf code ≡ labelOf other → code ≡ other
+LabelsDiffer = (set code other : ℕ) → isSet set ≡ true → code < 16 → other < 16 → labelOf set code ≡ labelOf set other → code ≡ other
+
+-- `labels-there`: a set has a label for each code from 0 to 15 that isn't empty, and no other
+abbrev pub LabelsThere : Type 0
+LabelsThere = (set : ℕ) → isSet set ≡ true → (length (getD labelSets set []) ≡ 16) × ((code : ℕ) → code < 16 → 0 < length (labelOf set code))
+
+-- a letter, a digit or a sign of ASCII, or a space
+abbrev pub isPlain : ℕ → Bool
+isPlain b = leb 32 b && ltb b 127
+
+-- `labels-plain`: plain ASCII, byte for byte
+abbrev pub LabelsPlain : Type 0
+LabelsPlain = (set code at : ℕ) → at < length (labelOf set code) → isPlain (getD (labelOf set code) at 0) ≡ true
 
 -- `line-fits`: 40 bytes are enough for any log line
 abbrev pub LineFits : Type 0
-LineFits = (a : Answer) → length (logLine a) ≤ 40
+LineFits = (set : ℕ) (a : Answer) → length (logLine set a) ≤ 40
 
 -- `line-room`: with 40 bytes from the place on `put_line` writes the log line, with fewer nothing
 abbrev pub LineRoom : Type 0
-LineRoom = (out : List ℕ) (at : ℕ) (a : Answer) → (at + 40 ≤ length out → lineIn out at a ≡ logLine a) × (length out < at + 40 → lineIn out at a ≡ [])
+LineRoom =
+    (set : ℕ) (out : List ℕ) (at : ℕ) (a : Answer)
+    → (at + 40 ≤ length out → lineIn set out at a ≡ logLine set a) × (length out < at + 40 → lineIn set out at a ≡ [])
 
 -- the numbers of an answer have no more digits than the log gives them
 pub record AnswerFits (a : Answer) : Type 0 where
@@ -31,9 +47,9 @@ pub record AnswerFits (a : Answer) : Type 0 where
   pub value : a .value < 16 ^ 8
   pub enables : a .enables < 16 ^ 1
 
--- `numbers-are-key`: the 20 digits before the label are the whole answer; nothing is told by the label alone
+-- `numbers-are-key`: the 20 digits before the label are the whole answer, whatever the sets; nothing is told by the label alone
 abbrev pub NumbersAreKey : Type 0
-NumbersAreKey = (a b : Answer) → AnswerFits a → AnswerFits b → take 20 (logLine a) ≡ take 20 (logLine b) → a ≡ b
+NumbersAreKey = (set other : ℕ) (a b : Answer) → AnswerFits a → AnswerFits b → take 20 (logLine set a) ≡ take 20 (logLine other b) → a ≡ b
 
 -- `wrote-unique`: two results that meet one contract of writing are the same, and so are the outputs
 abbrev pub WroteUnique : Type 0

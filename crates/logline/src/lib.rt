@@ -1,15 +1,29 @@
-// The log line of an answer: its numbers in upper-case hexadecimal digits, a space, the label of the code, LF.
+// The log line of an answer: its numbers in upper-case hexadecimal digits, a space, the label of the code in a language, LF.
 ghost use mathlib.Core.Path.{_≡_};
 ghost use Prim.Native.Nat.{_+_, _≤_};
-ghost use lib.ListN.{length};
+ghost use mathlib.Core.List.{[]};
+ghost use lib.ListN.{length, getD};
 ghost use Rattle.hex.specs.Hex.{digits};
 ghost use Rattle.logline.specs.Wrote.{Wrote};
-ghost use Rattle.logline.specs.Labels.{labelOf};
+ghost use Rattle.logline.specs.Labels.{english, german, isSet, labelOf};
 ghost use Rattle.logline.specs.LogLine.{numbers, lineIn};
 use machine::Answer;
 
 // The most bytes that a log line has.
 pub const LINE_ROOM: usize = 40;
+
+// The number of the English label set, in which an unknown one is refused.
+pub const ENGLISH: u32 = 0;
+
+// How many label sets there are.
+const SETS: u32 = 2;
+
+// Whether a number is that of a label set.
+pub fn is_set(set: u32) -> bool
+    ensures { λ r. ⌜ r ≡ isSet set ⌝ }
+{
+    set < SETS
+}
 
 // Writes the lowest `count` digits of x, the highest first, and answers the place past them.
 fn put_digits(out: &mut [u8], at: usize, count: usize, x: u32) -> usize
@@ -38,10 +52,30 @@ fn put(out: &mut [u8], at: usize, src: &[u8]) -> usize
     at + i
 }
 
-// Writes the label of a code, and answers the place past it.
-fn put_label(out: &mut [u8], at: usize, code: u32) -> usize
+// Each label is a byte string in the arm of its code; a function has eight, since its check grows faster than its arms.
+
+// The English labels of the codes from 8 on, by the code less 8.
+fn put_english_8(out: &mut [u8], at: usize, code_less_8: u32) -> usize
     requires { ⌜ at + 18 ≤ length (now out) ⌝ }
-    ensures { λ r. ⌜ Wrote (now (out .entry)) at (labelOf code) r (now (out .exit)) ⌝ }
+    ensures { λ r. ⌜ Wrote (now (out .entry)) at (getD english (8 + code_less_8) []) r (now (out .exit)) ⌝ }
+{
+    match code_less_8 {
+        0 => put(out, at, b"FIFO full or empty"),
+        1 => put(out, at, b"transfer off"),
+        2 => put(out, at, b"count is zero"),
+        3 => put(out, at, b"abort stands"),
+        4 => put(out, at, b"FIFO not ready"),
+        5 => put(out, at, b"no memory there"),
+        6 => put(out, at, b"not a frame line"),
+        7 => put(out, at, b"unknown label set"),
+        _ => at,
+    }
+}
+
+// The English labels, by the code.
+fn put_english(out: &mut [u8], at: usize, code: u32) -> usize
+    requires { ⌜ at + 18 ≤ length (now out) ⌝ }
+    ensures { λ r. ⌜ Wrote (now (out .entry)) at (getD english code []) r (now (out .exit)) ⌝ }
 {
     match code {
         0 => put(out, at, b"done"),
@@ -52,13 +86,54 @@ fn put_label(out: &mut [u8], at: usize, code: u32) -> usize
         5 => put(out, at, b"bad enables"),
         6 => put(out, at, b"part FIFO access"),
         7 => put(out, at, b"read-only register"),
-        8 => put(out, at, b"FIFO full or empty"),
-        9 => put(out, at, b"transfer off"),
-        10 => put(out, at, b"count is zero"),
-        11 => put(out, at, b"abort stands"),
-        12 => put(out, at, b"FIFO not ready"),
-        13 => put(out, at, b"no memory there"),
-        14 => put(out, at, b"not a frame line"),
+        _ => put_english_8(out, at, code - 8),
+    }
+}
+
+// The German labels of the codes from 8 on, by the code less 8.
+fn put_german_8(out: &mut [u8], at: usize, code_less_8: u32) -> usize
+    requires { ⌜ at + 18 ≤ length (now out) ⌝ }
+    ensures { λ r. ⌜ Wrote (now (out .entry)) at (getD german (8 + code_less_8) []) r (now (out .exit)) ⌝ }
+{
+    match code_less_8 {
+        0 => put(out, at, b"FIFO voll/leer"),
+        1 => put(out, at, b"Transfer aus"),
+        2 => put(out, at, b"Zaehler ist null"),
+        3 => put(out, at, b"Abbruch steht an"),
+        4 => put(out, at, b"FIFO nicht bereit"),
+        5 => put(out, at, b"kein Speicher dort"),
+        6 => put(out, at, b"keine Rahmenzeile"),
+        7 => put(out, at, b"Textsatz unbekannt"),
+        _ => at,
+    }
+}
+
+// The German labels, by the code.
+fn put_german(out: &mut [u8], at: usize, code: u32) -> usize
+    requires { ⌜ at + 18 ≤ length (now out) ⌝ }
+    ensures { λ r. ⌜ Wrote (now (out .entry)) at (getD german code []) r (now (out .exit)) ⌝ }
+{
+    match code {
+        0 => put(out, at, b"erledigt"),
+        1 => put(out, at, b"Zustand ungueltig"),
+        2 => put(out, at, b"Fenster ungueltig"),
+        3 => put(out, at, b"Schritt unbekannt"),
+        4 => put(out, at, b"Offset unbekannt"),
+        5 => put(out, at, b"Freigabe ungueltig"),
+        6 => put(out, at, b"FIFO-Teilzugriff"),
+        7 => put(out, at, b"nur lesbar"),
+        _ => put_german_8(out, at, code - 8),
+    }
+}
+
+// Writes the label that a set has for a code, and answers the place past it.
+fn put_label(out: &mut [u8], at: usize, code: u32, set: u32) -> usize
+    requires { ⌜ at + 18 ≤ length (now out) ⌝ }
+    ensures { λ r. ⌜ Wrote (now (out .entry)) at (labelOf set code) r (now (out .exit)) ⌝ }
+{
+    match set {
+        0 => put_english(out, at, code),
+        1 => put_german(out, at, code),
         _ => at,
     }
 }
@@ -75,10 +150,10 @@ fn put_numbers(out: &mut [u8], at: usize, a: Answer) -> usize
     put_digits(out, p4, 1, a.line as u32)
 }
 
-// Writes the log line of an answer at a place, and answers the place past it. Where there is no room for 40 bytes it writes
-// nothing, and answers the place itself.
-pub fn put_line(out: &mut [u8], at: usize, a: Answer) -> usize
-    ensures { λ r. ⌜ Wrote (now (out .entry)) at (lineIn (now (out .entry)) at a) r (now (out .exit)) ⌝ }
+// Writes the log line of an answer at a place, with the label of a set, and answers the place past it. Where there is no room
+// for 40 bytes it writes nothing, and answers the place itself. A number that is no set has no labels.
+pub fn put_line(out: &mut [u8], at: usize, a: Answer, set: u32) -> usize
+    ensures { λ r. ⌜ Wrote (now (out .entry)) at (lineIn set (now (out .entry)) at a) r (now (out .exit)) ⌝ }
 {
     let n = out.len();
     if n < LINE_ROOM {
@@ -89,7 +164,7 @@ pub fn put_line(out: &mut [u8], at: usize, a: Answer) -> usize
     }
     let p = put_numbers(out, at, a);
     out[p] = b' ';
-    let end = put_label(out, p + 1, a.code);
+    let end = put_label(out, p + 1, a.code, set);
     out[end] = b'\n';
     end + 1
 }

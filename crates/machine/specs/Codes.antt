@@ -1,4 +1,4 @@
--- "Numbers a step can answer": the fifteen codes. An answer is chosen by its number, never by its label.
+-- The codes: 0 to 13 answer a step, 14 a line that is no frame, 15 an unknown label set. An answer is chosen by its number, never by its label.
 use Prim.Native.Nat.{ℕ}
 
 abbrev pub done : ℕ
@@ -45,3 +45,6 @@ noMemoryThere = 13
 
 abbrev pub notAFrameLine : ℕ
 notAFrameLine = 14
+
+abbrev pub unknownLabelSet : ℕ
+unknownLabelSet = 15

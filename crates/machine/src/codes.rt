@@ -1,4 +1,4 @@
-// The numbers that a step can answer, and 14, the answer to a line that is no frame.
+// The numbers that a step can answer; 14, the answer to a line that is no frame; 15, to an unknown label set.
 pub const DONE: u32 = 0;
 
 pub const STATE_OUT_OF_FORM: u32 = 1;
@@ -28,3 +28,5 @@ pub const FIFO_NOT_READY: u32 = 12;
 pub const NO_MEMORY_THERE: u32 = 13;
 
 pub const NOT_A_FRAME_LINE: u32 = 14;
+
+pub const UNKNOWN_LABEL_SET: u32 = 15;

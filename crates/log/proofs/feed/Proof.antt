@@ -7,6 +7,7 @@ use Rattle.controller.specs.Controller.{stateOf}
 use Rattle.log.specs.Log.{fedOf}
 use Rattle.log.specs.Results.{begunOf, pieceOf}
 use Rattle.log.proofs.Carried.{answers-few}
+use Rattle.log.proofs.Told.{log-length}
 use Rattle.log.proofs.Room.{short, long, log-end, with-log}
 use borrow.Author.Needs.{needs}
 use Rattle.log.proofs.feed.Statement.{statement}
@@ -31,7 +32,7 @@ returns-2 c =
     let f = fedOf st (a .start) (now (a .memory)) (begunOf (a .s)) (now (a .piece)) in
     let n = answers-few st (a .start) (now (a .memory)) (begunOf (a .s)) (now (a .piece)) in
     record {
-      fed = rw (w .state, w .memory, w .begun, log-end (f .answers) (w .log), with-log (f .answers) (w .log) (omega (arith, n, e .if1 .left))) (simp enough);
+      fed = rw (w .state, w .memory, w .begun, log-end (w .log), with-log (w .log) (omega (arith, log-length (a .set) (f .answers), n, e .if1 .left))) (simp enough);
       refused = λ f. absurd (true≢false (sym f ∙ enough));
     }
 

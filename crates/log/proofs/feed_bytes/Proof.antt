@@ -20,15 +20,15 @@ use Rattle.log.proofs.feed_bytes.Statement.{statement}
 use Rattle.log.proofs.feed_bytes.Tie as tie
 
 abbrev Inv-loop : tie.InvT-loop
-Inv-loop memory₀ start piece out₀ at c₀ bytes₀ len₀ n₀ i₀ memory out c bytes len n i =
+Inv-loop memory₀ start piece out₀ at set c₀ bytes₀ len₀ n₀ i₀ memory out c bytes len n i =
     (done : List Answer)
     × (i ≤ length piece) × (len ≤ 14) × (length bytes ≡ 14) × (length out ≡ length out₀)
     × (length memory ≡ length memory₀)
-    × Wrote out₀ at (logOf done) n out
+    × Wrote out₀ at (logOf set done) n out
     × (fedOf (stateOf c₀) start memory₀ (take len₀ bytes₀) piece ≡ afterFed done (fedOf (stateOf c) start memory (take len bytes) (drop i piece)))
 
 abbrev μ-loop : tie.MeasureT-loop
-μ-loop memory₀ start piece out₀ at c₀ bytes₀ len₀ n₀ i₀ memory out c bytes len n i = length piece - i
+μ-loop memory₀ start piece out₀ at set c₀ bytes₀ len₀ n₀ i₀ memory out c bytes len n i = length piece - i
 
 kept-requires : tie.Need-kept-requires Inv-loop μ-loop
 kept-requires c κs = search needs
@@ -69,9 +69,9 @@ loop-again c =
     let fed = v .7 ∙ turn-ended T (stateOf (l .loop .c)) (a .start) (l .loop .memory) (v .0) (i .if1 .taken) _ (r .answer .ensures) in
     let kept = sym (clip (a .s .bytes) (bytes-length (a .s) (s .good .0)) (a .s .len)) ∙ ap (λ (n : ℕ). take n (a .s .bytes)) (sym (k .kept .ensures)) in
     let more = rw (← kept) at (more-answers _ (v .0) _ _ fed) in
-    let room : l .loop .n + lineRoom ≤ length (l .loop .out) = omega (arith, s .pre, v .6 .next, log-length (v .0), more, v .4) in
+    let room : l .loop .n + lineRoom ≤ length (l .loop .out) = omega (arith, s .pre, v .6 .next, log-length (a .set) (v .0), more, v .4) in
     let one = r .answer .result .answer in
-    let w = rw (in-room (l .loop .out) (l .loop .n) one room, ← log-one one) at (p .put-line .ensures) in (
+    let w = rw (in-room (a .set) (l .loop .out) (l .loop .n) one room, ← log-one (a .set) one) at (p .put-line .ensures) in (
       v .0 ++ (one ∷ []),
       T .within,
       T .few,

@@ -39,7 +39,7 @@ end-line-requires c κs =
     let w = rw (b .not-begun .ensures .0, b .not-begun .ensures .1) at (f .feed-bytes .ensures) in
     let fed = fedOf (stateOf (a .c)) (a .start) (now (a .memory)) [] (now (a .text)) in
     rw (w .state, w .memory, w .begun)
-    (omega (arith, b .before .if1 .left, n .line-count .ensures, fed-answers (stateOf (a .c)) (a .start) (now (a .memory)) (now (a .text)), w .log .next, log-length (fed .answers), f .feed-bytes .kept .1 .1 .1 .1 .0))
+    (omega (arith, b .before .if1 .left, n .line-count .ensures, fed-answers (stateOf (a .c)) (a .start) (now (a .memory)) (now (a .text)), w .log .next, log-length (a .set) (fed .answers), f .feed-bytes .kept .1 .1 .1 .1 .0))
 
 returns-2 : tie.Need-returns-2
 unfolding textRun
@@ -53,11 +53,11 @@ returns-2 c =
     let text = now (a .text) in
     let enough = long (length (lines text)) (now (a .out)) (rw (← n .line-count .ensures) (i .if1 .left)) in
     let fed = rw (b .not-begun .ensures .0, b .not-begun .ensures .1) at (f .feed-bytes .ensures) in
-    let w = rw (← text-fed (stateOf (a .c)) (a .start) (now (a .memory)) text) at (then-ends (a .start) fed (g .end-line .ensures)) in
+    let w = rw (← text-fed (stateOf (a .c)) (a .start) (now (a .memory)) text) at (then-ends (a .set) (a .start) fed (g .end-line .ensures)) in
     let t = textTold (stateOf (a .c)) (a .start) (now (a .memory)) text in
     let m = told-length (stateOf (a .c)) (a .start) (now (a .memory)) (lines text) in
     record {
-      ran = rw (w .state, w .memory, log-end (t .answers) (w .log), with-log (t .answers) (w .log) (omega (arith, m, i .if1 .left, n .line-count .ensures))) (simp enough);
+      ran = rw (w .state, w .memory, log-end (w .log), with-log (w .log) (omega (arith, log-length (a .set) (t .answers), m, i .if1 .left, n .line-count .ensures))) (simp enough);
       refused = λ e. absurd (true≢false (sym e ∙ enough));
     }
 

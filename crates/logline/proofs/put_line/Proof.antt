@@ -11,10 +11,10 @@ use Rattle.logline.proofs.put_line.Statement.{statement}
 use Rattle.logline.proofs.put_line.Tie as tie
 
 returns : tie.Need-returns
-returns c = let a = c .before .before .args in rw (no-room (now (a .out)) (a .at) (a .a) (omega arith)) wrote-none
+returns c = let a = c .before .before .args in rw (no-room (a .set) (now (a .out)) (a .at) (a .a) (omega arith)) wrote-none
 
 returns-2 : tie.Need-returns-2
-returns-2 c = let a = c .before .before .before .args in rw (no-room (now (a .out)) (a .at) (a .a) (omega arith)) wrote-none
+returns-2 c = let a = c .before .before .before .args in rw (no-room (a .set) (now (a .out)) (a .at) (a .a) (omega arith)) wrote-none
 
 put-label-requires : tie.Need-put-label-requires
 put-label-requires c κs =
@@ -31,7 +31,7 @@ label-leaves c =
     omega (
       arith,
       l .put-label .ensures .next,
-      labels-short (e .before .before .before .args .a .code),
+      labels-short (e .before .before .before .args .set) (e .before .before .before .args .a .code),
       l .put-label .kept .0,
       length-set (n .put-numbers .last .0) (n .put-numbers .result) 32,
       n .put-numbers .ensures .0,
@@ -57,7 +57,7 @@ returns-3 c =
     let n = l .before .before .before .before in
     let e = n .before .before in
     let a = e .before .before .before .args in
-    rw (in-room (now (a .out)) (a .at) (a .a) (omega (arith, e .if2 .left, e .before .if1 .left)))
+    rw (in-room (a .set) (now (a .out)) (a .at) (a .a) (omega (arith, e .if2 .left, e .before .if1 .left)))
     (wrote-then (wrote-then (wrote-then (n .put-numbers .ensures .1) (wrote-one _ _ 32)) (l .put-label .ensures)) (wrote-one _ (l .put-label .result) 10))
 
 same-length : tie.Need-same-length
