@@ -4,6 +4,7 @@ use controller::Controller;
 use frame::Framed;
 use libc::STDIN_FILENO;
 use libc::STDOUT_FILENO;
+use logline::ENGLISH;
 use step::Stepped;
 
 // One line, by the form asked for.
@@ -41,7 +42,7 @@ fn write_log(text: &[u8], is_in_place: bool) {
         let next = t.controller;
         let a = t.answer;
         c = next;
-        let n = logline::put_line(&mut out, 0, a);
+        let n = logline::put_line(&mut out, 0, a, ENGLISH);
         io::write_all(STDOUT_FILENO, &out[..n]);
         before = at;
         at = lines::past_line(text, at);

@@ -1,2 +1,6 @@
 pub mod Passing
 pub mod Promised
+pub mod Within
+pub mod FirstLine
+pub mod Joined
+pub mod AtOnce

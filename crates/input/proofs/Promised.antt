@@ -1,6 +1,6 @@
 -- What `feed` and `finish` promise, by how far the reading has come.
 use Prim.Native.Nat.{ℕ, _+_, _≤_, zero-le}
-use mathlib.Core.Path.{_≡_, refl}
+use mathlib.Core.Path.{_≡_, refl, sym, _∙_}
 use mathlib.Core.List.{List, []}
 use mathlib.Core.Bool.{Bool, true, false}
 use borrow.Author.Tests.{le-ltb}
@@ -19,7 +19,7 @@ use Rattle.input.specs.declared.Reading.the-variants.{FirstLine, Frames,
 use Rattle.input.specs.declared.SetLine.{SetLine}
 use Rattle.input.specs.declared.Input.{Input}
 use Rattle.input.specs.Input.{unknownSet, refusal, hasSet, passing, refusalAfter, fedPast, fedInput, endedFirst, endedInput}
-use Rattle.input.specs.Results.{InputRun, withRoom, asItIs, linesLeft}
+use Rattle.input.specs.Results.{InputRun, withRoom, asItIs, linesLeft, InputFeedUnique, InputFinishUnique}
 
 module _ (i : Input) (start : ℕ) (memory out : List ℕ) where
   abbrev st : State
@@ -113,3 +113,11 @@ unfolding refusalAfter
 refusal-after-fits (FirstLine line) = refusal-fits
 refusal-after-fits (Frames set) = zero-le
 refusal-after-fits Over = zero-le
+
+-- ---- two results are the same
+
+pub input-feed-unique : InputFeedUnique
+input-feed-unique i start memory piece out r q memory′ memory″ out′ out″ p o = (p .fed ∙ sym (o .fed), λ e. p .refused e ∙ sym (o .refused e))
+
+pub input-finish-unique : InputFinishUnique
+input-finish-unique i start memory out r q memory′ memory″ out′ out″ p o = (p .ended ∙ sym (o .ended), λ e. p .refused e ∙ sym (o .refused e))

@@ -2,7 +2,7 @@
 use Prim.Native.Nat.{ℕ}
 use mathlib.Core.Path.{_≡_}
 use mathlib.Core.List.{List, [], _∷_, _++_}
-use mathlib.Core.Bool.{Bool, true, false}
+use mathlib.Core.Bool.{true, false}
 use Rattle.machine.specs.State.{State, resetState}
 use Rattle.machine.specs.Window.{zeroWords}
 use Rattle.hex.specs.Hex.{bytes, number, digits}
@@ -48,6 +48,10 @@ pub record OverAt (xs : List ℕ) : Type 0 where
 
 abbrev pub OverAtOnce : Type 0
 OverAtOnce = (xs : List ℕ) → OverAt xs
+
+-- `set-chosen`: a set's number in two digits and LF, then a text: the log is that text's under the set
+abbrev pub SetChosen : Type 0
+SetChosen = (set : ℕ) (text : List ℕ) → isSet set ≡ true → inputLog (digits 2 set ++ (lf ∷ text)) ≡ programLog set text
 
 -- `inputs-cut`: the logs of one text under any two sets, chosen by the first line, cut, are the same bytes
 abbrev pub InputsCut : Type 0

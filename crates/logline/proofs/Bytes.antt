@@ -18,7 +18,7 @@ module _ (test : ℕ → Bool) where
       rw (parts .0) (every-append xs ys (parts .1) f)
 
   module _ (all : below (λ k. test (digitOf k)) 16 ≡ true) where
-    every-digits : (n x : ℕ) → every test (digits n x) ≡ true
+    pub every-digits : (n x : ℕ) → every test (digits n x) ≡ true
     unfolding digits
     every-digits zero x = refl
     every-digits (suc n) x = every-append (digits n (x / 16)) (digitOf (x % 16) ∷ []) (every-digits n (x / 16)) (rw (below-at (λ k. test (digitOf k)) 16 (x % 16) all (omega arith)))

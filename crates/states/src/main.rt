@@ -8,6 +8,7 @@ use fifo::Fifo;
 use fifo::WordFill;
 use libc::STDIN_FILENO;
 use libc::STDOUT_FILENO;
+use logline::ENGLISH;
 use machine::Answer;
 use machine::Step;
 
@@ -161,7 +162,7 @@ fn write_memory(memory: &[u32], base: u32) {
 
 fn write_answer(a: Answer) {
     let mut out = [0u8; 40];
-    let n = logline::put_line(&mut out, 0, a);
+    let n = logline::put_line(&mut out, 0, a, ENGLISH);
     io::write_all(STDOUT_FILENO, &out[..n]);
 }
 

@@ -1,8 +1,8 @@
--- "The station service is written in C and calls the same run on an input and an output byte slice": what the call returns and leaves in the output.
+-- The C call (document 01, "Frames and the log"; document 02, Ask 1): what it returns and leaves in the output.
 use Prim.Native.Nat.{ℕ, _*_, _≤_, _<_}
 use mathlib.Core.Path.{_≡_}
 use mathlib.Core.List.{List, [], _++_}
-use mathlib.Core.Bool.{Bool, cond}
+use mathlib.Core.Bool.{Bool, true, false, cond}
 use lib.IntN.{ℤ, pos, negsuc}
 use lib.ListN.{length, drop}
 use lib.Dec.{ltb}
@@ -11,14 +11,15 @@ use Rattle.machine.specs.Window.{zeroWords}
 use Rattle.log.specs.declared.Logged.{Logged}
 use Rattle.log.specs.declared.Logged.the-variants.{Written, NoRoom}
 use Rattle.lines.specs.Lines.{lines}
+use Rattle.logline.specs.Labels.{isSet}
 use Rattle.log.specs.Results.{TextRun, textRun}
 use Rattle.log.specs.Promises.{programLog}
 
--- "from reset, with 4,096 zero words of memory at address 0"
-unfoldable pub fromReset : List ℕ → List ℕ → TextRun
-fromReset input output = textRun resetState 0 zeroWords input output
+-- a run from reset, with the log program's memory
+unfoldable pub fromReset : ℕ → List ℕ → List ℕ → TextRun
+fromReset set input output = textRun set resetState 0 zeroWords input output
 
--- "if the input exceeds 1,048,576 bytes"
+-- the input exceeds 1,048,576 bytes
 unfoldable pub isTooLong : List ℕ → Bool
 isTooLong input = ltb 1_048_576 (length input)
 
@@ -27,38 +28,40 @@ unfoldable pub numberOf : Logged → ℤ
 numberOf (Written n) = pos n
 numberOf NoRoom = negsuc 0
 
--- -2, which is `negsuc 1`, comes first
-unfoldable pub resultOf : List ℕ → List ℕ → ℤ
-resultOf input output = cond (isTooLong input) (negsuc 1) (numberOf (fromReset input output .log))
+-- -2, which is `negsuc 1`, comes first; then -3, which is `negsuc 2`, for a number that is no label set
+unfoldable pub resultOf : ℕ → List ℕ → List ℕ → ℤ
+resultOf set input output = cond (isTooLong input) (negsuc 1) (cond (isSet set) (numberOf (fromReset set input output .log)) (negsuc 2))
 
 -- no byte is written where it refuses, and none past the log
-unfoldable pub outputOf : List ℕ → List ℕ → List ℕ
-outputOf input output = cond (isTooLong input) output (fromReset input output .out)
+unfoldable pub outputOf : ℕ → List ℕ → List ℕ → List ℕ
+outputOf set input output = cond (isTooLong input) output (cond (isSet set) (fromReset set input output .out) output)
 
 -- what `s5933_log` promises of its result and of the output at exit
-pub record CallPromised (input output : List ℕ) (r : ℤ) (after : List ℕ) : Type 0 where
-  pub result : r ≡ resultOf input output
-  pub written : after ≡ outputOf input output
+pub record CallPromised (set : ℕ) (input output : List ℕ) (r : ℤ) (after : List ℕ) : Type 0 where
+  pub result : r ≡ resultOf set input output
+  pub written : after ≡ outputOf set input output
 
 -- `call-unique`: two results that meet it are the same, and so are the outputs
 abbrev pub CallUnique : Type 0
-CallUnique = (input output : List ℕ) (r q : ℤ) (after also : List ℕ) → CallPromised input output r after → CallPromised input output q also → (r ≡ q) × (after ≡ also)
+CallUnique = (set : ℕ) (input output : List ℕ) (r q : ℤ) (after also : List ℕ) → CallPromised set input output r after → CallPromised set input output q also → (r ≡ q) × (after ≡ also)
 
--- `empty-call`: "Empty input gives 0", and no byte is written
+-- `empty-call`: empty input gives 0 under a set, and no byte is written
 abbrev pub EmptyCall : Type 0
-EmptyCall = (output : List ℕ) → (resultOf [] output ≡ pos 0) × (outputOf [] output ≡ output)
+EmptyCall = (set : ℕ) (output : List ℕ) → isSet set ≡ true → (resultOf set [] output ≡ pos 0) × (outputOf set [] output ≡ output)
 
--- in document 01's numbers; -2 is `negsuc 1`, -1 is `negsuc 0`
-pub record Calls (input output : List ℕ) (r : ℤ) (after : List ℕ) : Type 0 where
-  -- "-2 if the input exceeds 1,048,576 bytes", and the output is as it was
+-- in the documents' numbers; -3 is `negsuc 2`, -2 is `negsuc 1`, -1 is `negsuc 0`
+pub record Calls (set : ℕ) (input output : List ℕ) (r : ℤ) (after : List ℕ) : Type 0 where
+  -- -2 if the input exceeds 1,048,576 bytes, and the output is as it was
   pub tooLong : 1_048_576 < length input → (r ≡ negsuc 1) × (after ≡ output)
-  -- "or else -1 exactly if the output has fewer than 40 bytes for each input line", and the output is as it was
-  pub noRoom : length input ≤ 1_048_576 → length output < 40 * length (lines input) → (r ≡ negsuc 0) × (after ≡ output)
-  -- else "the number of log bytes": the output begins with the log program's log, every byte past it is as it was, and there are no more and no fewer
+  -- or else -3 if the number is no label set's, and the output is as it was
+  pub unknownSet : length input ≤ 1_048_576 → isSet set ≡ false → (r ≡ negsuc 2) × (after ≡ output)
+  -- or else -1 exactly if the output has fewer than 40 bytes for each line of the input, and the output is as it was
+  pub noRoom : length input ≤ 1_048_576 → isSet set ≡ true → length output < 40 * length (lines input) → (r ≡ negsuc 0) × (after ≡ output)
+  -- else the number of bytes of the log: the output begins with the log program's log, every byte past it is as it was, and there are no more and no fewer
   pub logged :
-      length input ≤ 1_048_576 → 40 * length (lines input) ≤ length output
-      → (r ≡ pos (length (programLog input))) × (after ≡ programLog input ++ drop (length (programLog input)) output) × (length after ≡ length output)
+      length input ≤ 1_048_576 → isSet set ≡ true → 40 * length (lines input) ≤ length output
+      → (r ≡ pos (length (programLog set input))) × (after ≡ programLog set input ++ drop (length (programLog set input)) output) × (length after ≡ length output)
 
 -- `call-rule`: whatever input and output are, that is what `s5933_log` promises
 abbrev pub CallRule : Type 0
-CallRule = (input output : List ℕ) (r : ℤ) (after : List ℕ) → CallPromised input output r after → Calls input output r after
+CallRule = (set : ℕ) (input output : List ℕ) (r : ℤ) (after : List ℕ) → CallPromised set input output r after → Calls set input output r after

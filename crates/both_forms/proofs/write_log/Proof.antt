@@ -23,7 +23,7 @@ loop-holds c = (length-replicate {A = ℕ} 4096 0, length-replicate {A = ℕ} 40
 few : (c : tie.After-put-line Inv-loop μ-loop) → c .put-line .result ≤ length (c .put-line .last .0)
 few c =
     let l = c .before .before .before .before .before .before .before .before .before in
-    omega (arith, c .put-line .ensures .next, line-in-fits (l .loop .out) 0 (c .before .before .before .before .before .answer .result .answer), c .put-line .kept .0, l .loop .inv .1)
+    omega (arith, c .put-line .ensures .next, line-in-fits 0 (l .loop .out) 0 (c .before .before .before .before .before .answer .result .answer), c .put-line .kept .0, l .loop .inv .1)
 
 array-share-prefix-out : tie.Need-array-share-prefix-out Inv-loop μ-loop
 array-share-prefix-out c = omega (arith, few (c .before))

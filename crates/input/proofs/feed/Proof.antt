@@ -62,7 +62,7 @@ returns-4 c =
     let enough = long (length (now (a .piece)) + 1) (now (a .out)) (omega (arith, i .if1 .left)) in
     record {
       fed = fed-over (a .i) (a .start) (now (a .memory)) (now (a .out)) (now (a .piece)) _ enough (rw (e .enum-told .given .1) at (p .set-line-passed .ensures .passes)) _ _
-      (log-end w) (with-log w (omega (arith, refusal-after-fits (a .i .reading), i .if1 .left)));
+          (log-end w) (with-log w (omega (arith, refusal-after-fits (a .i .reading), i .if1 .left)));
       refused = λ h. absurd (true≢false (sym h ∙ enough));
     }
 

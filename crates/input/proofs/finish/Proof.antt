@@ -27,7 +27,7 @@ returns-2 c =
     let enough = long 1 (now (a .out)) (omega (arith, i .if1 .left)) in
     record {
       ended = ended-known (a .i) (a .start) (now (a .memory)) (now (a .out)) _ enough (sym (c .before .has-set .ensures) ∙ c .if2 .taken)
-      ∙ ap (endedRun (a .i) (a .start) (now (a .memory)) (now (a .out))) (sym (r .reading .given .1));
+          ∙ ap (endedRun (a .i) (a .start) (now (a .memory)) (now (a .out))) (sym (r .reading .given .1));
       refused = λ h. refl;
     }
 
@@ -45,7 +45,7 @@ returns-3 c =
     let none = sym (h .before .has-set .ensures) ∙ h .if2 .left in
     record {
       ended = ended-refused (a .i) (a .start) (now (a .memory)) (now (a .out)) _ enough none _ _ (log-end w) (with-log w (omega (arith, refusal-fits, i .if1 .left)))
-      ∙ ap (endedRun (a .i) (a .start) (now (a .memory)) (now (a .out))) (sym (r .reading .given .1));
+          ∙ ap (endedRun (a .i) (a .start) (now (a .memory)) (now (a .out))) (sym (r .reading .given .1));
       refused = λ h. refl;
     }
 

@@ -27,7 +27,7 @@ loop-again c =
     let piece = now (l .before .before .args .piece) in (
       omega arith,
       l .loop .inv .1 ∙ ap (λ (q : Reading). passing q (drop (l .loop .at) piece)) (r .r .given .1) ∙ passing-turn _ piece (l .loop .at) (t .loop-test .taken)
-      ∙ ap (λ (q : Reading). passing q (drop (l .loop .at + 1) piece)) (sym (c .byte-heard .ensures)),
+          ∙ ap (λ (q : Reading). passing q (drop (l .loop .at + 1) piece)) (sym (c .byte-heard .ensures)),
     )
 
 returns : tie.Need-returns Inv-loop μ-loop
