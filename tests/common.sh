@@ -23,6 +23,7 @@ fi
 loader=("${emulator[@]}" "$tools/lib/ld-linux-x86-64.so.2" --library-path "$tools/lib")
 # shellcheck disable=SC2034
 program=target/bin/s5933_log
+# shellcheck disable=SC2034
 archive=target/staticlib/libstation.a
 
 has() { command -v "$1" >/dev/null; }
@@ -62,16 +63,9 @@ provide_tools() {
     has "${emulator[0]}" || echo "error: the kit has no emulator ${emulator[0]}"
 }
 
-# older FILE: it is missing, or a source of the Rattle parts is newer.
-older() {
-    [ ! -e "$1" ] || [ -n "$(find crates crates.txt -type f -newer "$1" -print -quit)" ]
-}
-
-# The log program and the archive, built if a source is newer; prints what is wrong.
+# The log program and the archive, built if a source has changed; prints what is wrong.
 build_rattle() {
-    echo 00 | ./s5933-log >"$work/rattle" 2>&1 || { cat "$work/rattle"; return; }
-    older "$archive" || return 0
-    rt staticlib station >"$work/rattle" 2>&1 || tail -n 20 "$work/rattle"
+    ./s5933-log --build >"$work/rattle" 2>&1 || cat "$work/rattle"
 }
 
 # compile OUTPUT WORDS...: a C program for this machine.
