@@ -1,4 +1,4 @@
--- "Numbers a step can answer": the fifteen codes. An answer is chosen by its number, never by its label.
+-- Numbers a step can answer: the fifteen codes. An answer is chosen by its number, never by its label.
 use Prim.Native.Nat.{ℕ}
 
 abbrev pub done : ℕ
