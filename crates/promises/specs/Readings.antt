@@ -34,8 +34,7 @@ WrittenBits =
     (k : ℕ) → k < 32 → (keeps old new enables : ℕ)
     → bit (written keeps old new enables) k ≡ (cond (bit enables (k / 8)) (bit new k) (bit old k) && bit keeps k)
 
--- `kept-bits`: the bits that each register keeps of what is written (all but 1:0 of an address, 25:0 of a count, 4:0, 12:8, 15:14 of INTCSR,
--- 15:8 without 11 of MCSR), and the flags of INTCSR, 21:16
+-- `kept-bits`: of what is written an address keeps all but 1:0, a count 25:0, INTCSR 4:0, 12:8 and 15:14, MCSR 15:12 and 10:8; INTCSR's flags are 21:16
 pub record KeptBits (k : ℕ) : Type 0 where
   pub address : bit addressKept k ≡ leb 2 k
   pub count : bit countKept k ≡ leb k 25
