@@ -22,7 +22,7 @@ pub fn place(start: u32, address: u32) -> u32
     std::num::wrapping_sub_u32(address, start) / WORD_BYTES
 }
 
-// The address after FFFFFFFC is 00000000.
+// The next word's address; past the highest one comes 0.
 fn next_address(address: u32) -> u32
     ensures { λ r. ⌜ r ≡ nextAddress address ⌝ }
 {

@@ -16,7 +16,7 @@ use machine::offsets;
 // The bits that a count keeps: 25 to 0.
 const KEPT: u32 = 0x03FF_FFFF;
 
-// The bytes that a cycle moves: the lesser of 4 and the count.
+// The bytes that a cycle moves: four, or the count where it is less.
 fn moved(count: ByteCount) -> ByteCount
     ensures { λ r. ⌜ r .0 ≡ moved (count .0) ⌝ }
 {

@@ -1,4 +1,4 @@
--- "Two FIFOs are equal if they hold the same words in order; free places don't count."
+-- FIFOs and memory cycles: a FIFO is the words in it, front first. What stands in its free places is no part of it.
 use Prim.Native.Nat.{ℕ}
 use mathlib.Core.List.{List}
 use Rattle.fifo.specs.Ring.{from}

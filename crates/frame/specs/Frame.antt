@@ -17,11 +17,11 @@ use Rattle.frame.specs.declared.Value.the-variants.{Number, NotDigits}
 abbrev pub part : ℕ → ℕ → List ℕ → List ℕ
 part from count line = take count (drop from line)
 
--- "upper-case hexadecimal, 13 digits"
+-- Frames and the log: 13 digits, letters in upper case, and nothing else
 unfoldable pub isFrame : List ℕ → Bool
 isFrame line = eqb (length line) 13 && allDigits line
 
--- "kind 2, offset 2, enables 1, data 8"
+-- the parts, from the left: two digits of kind, two of offset, one of enables, eight of data
 unfoldable pub stepIn : List ℕ → Step
 stepIn line = record { kind = number (part 0 2 line); offset = number (part 2 2 line); enables = number (part 4 1 line); value = number (part 5 8 line) }
 
@@ -29,7 +29,7 @@ stepIn line = record { kind = number (part 0 2 line); offset = number (part 2 2 
 unfoldable pub frameOf : List ℕ → Framed
 frameOf line = cond (isFrame line) (Frame (stepIn line)) NotAFrame
 
--- What each case of that answer stands for: a frame is a step; "any other line, the empty one included, is code 14 and makes no step".
+-- What each case of that answer stands for: a frame is a step; no frame (an empty line is none) leaves everything and answers 14.
 unfoldable pub framedOutcome : Framed → State → ℕ → List ℕ → Outcome
 framedOutcome (Frame s) st start memory = stepOf st start memory s
 framedOutcome NotAFrame st start memory = record { state = st; memory = memory; answer = notAFrame st }

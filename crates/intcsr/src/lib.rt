@@ -8,7 +8,7 @@ use machine::Step;
 use machine::kinds;
 use machine::offsets;
 
-// The bits that it keeps, 0 to 4, 8 to 12, 14, 15, and those that events set, 16 to 21.
+// The bits that it keeps (4 to 0, 12 to 8, 15 and 14) and those that events set (21 to 16).
 pub const KEPT: u32 = 0x0000_DF1F;
 
 pub const EVENTS: u32 = 0x003F_0000;
@@ -49,14 +49,14 @@ fn written(old: u32, new: u32, enables: u32) -> u32
     word::written(KEPT, old, new, enables) | word::cleared(old & EVENTS, word::shown(new, enables))
 }
 
-// The Add-On reads the chosen outgoing byte, and the event is enabled.
+// The outgoing event: it is enabled, and the Add-On takes the chosen byte.
 fn outgoing_event(i: u32, s: Step) -> bool
     ensures { λ r. ⌜ r ≡ outgoingEvent i (accessOf s) ⌝ }
 {
     word::bit(i, OUTGOING_ENABLE) & mailboxes::takes_byte(i % mailboxes::HALF, s)
 }
 
-// The Add-On writes the chosen incoming byte, and the event is enabled.
+// The incoming event: it is enabled, and the Add-On fills the chosen byte.
 fn incoming_event(i: u32, s: Step) -> bool
     ensures { λ r. ⌜ r ≡ incomingEvent i (accessOf s) ⌝ }
 {

@@ -132,7 +132,7 @@ secondLog =
 abbrev pub SecondHold : Type 0
 SecondHold = (programLog englishSet secondFrames ≡ secondLog) × (programLog englishSet (bytes "\n\n") ≡ bytes "0E000000000000000000 not a frame line\n0E000000000000000000 not a frame line\n")
 
--- "One that handles the first frame and only echoes the rest"
+-- How tight the contracts are: a worthless log, right about the first line, which gives back every later one as it came
 abbrev pub echo : List (List ℕ) → List ℕ
 echo [] = []
 echo (line ∷ more) = line ++ (lf ∷ []) ++ echo more

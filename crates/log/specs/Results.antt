@@ -24,7 +24,7 @@ use Rattle.log.specs.declared.Streaming.{Streaming}
 use Rattle.log.specs.declared.Turn.{Turn}
 use Rattle.log.specs.Log.{Told, Fed, logOf, textTold, answering, fedOf}
 
--- the output has fewer than 40 bytes for each of so many lines
+-- the output is too short for so many log lines of the greatest length
 unfoldable pub isShort : ℕ → List ℕ → Bool
 isShort most out = ltb (length out) (lineRoom * most)
 

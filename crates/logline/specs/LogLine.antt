@@ -8,7 +8,7 @@ use Rattle.machine.specs.declared.Answer.{Answer}
 use Rattle.hex.specs.Hex.{bytes, digits}
 use Rattle.logline.specs.Labels.{labelOf}
 
--- "code 2, address 8, data 8, enables 1, interrupt line 1"
+-- Frames and the log: 20 digits, two of the code, eight of the address, eight of the data, one of the enables, one that is 1 while the interrupt line is up
 unfoldable pub numbers : Answer → List ℕ
 numbers a = digits 2 (a .code) ++ digits 8 (a .address) ++ digits 8 (a .value) ++ digits 1 (a .enables) ++ digits 1 (cond (a .line) 1 0)
 
@@ -20,7 +20,7 @@ logBody set a = numbers a ++ bytes " " ++ labelOf set (a .code)
 unfoldable pub logLine : ℕ → Answer → List ℕ
 logLine set a = logBody set a ++ bytes "\n"
 
--- "40 bytes for each input line": the most that a log line has
+-- the room that is asked for each line: no log line is longer (`line-fits`)
 abbrev pub lineRoom : ℕ
 lineRoom = 40
 

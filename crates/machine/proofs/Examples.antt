@@ -1,4 +1,4 @@
--- The ten marked examples, and the cases beside them, by computing them.
+-- The ten marked examples and the cases of `Neighbours`, by computing them.
 use mathlib.Core.Path.{refl}
 use Rattle.machine.specs.Step.{computing}
 use Rattle.machine.specs.Examples.{MarkedHold}

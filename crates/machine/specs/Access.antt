@@ -1,17 +1,17 @@
--- "A step and its answer": the kinds of step, by name, and which access a step is.
+-- A step and its answer: the kinds of step, by name, and which access a step is.
 use Prim.Native.Nat.{ℕ, zero, suc}
 use mathlib.Core.Bool.{Bool, true, false, _&&_}
 use lib.Dec.{eqb}
 use Rattle.machine.specs.Sides.{Side, pci, addon, sameSide, Party, host, card, partyOf, sameParty}
 use Rattle.machine.specs.declared.Step.{Step}
 
--- A cycle is named by the lane that it works on. "Kinds 4 to 6 ignore offset, enables and data": no rule of theirs looks at them.
+-- A cycle is named by the lane that it works on. Of a cycle or a reset only the kind counts: no rule of theirs looks at the other three numbers.
 pub data Kind : Type 0 where
   reading writing : Party → Kind
   cycle : Side → Kind
   chipReset unknown : Kind
 
--- 0 PCI read, 1 PCI write, 2 Add-On read, 3 Add-On write, 4 write cycle, 5 read cycle, 6 chip reset; nothing above
+-- the host reads (0) and writes (1), the card reads (2) and writes (3); a write cycle (4), a read cycle (5), a chip reset (6); no kind is above
 abbrev pub kindOf : ℕ → Kind
 kindOf zero = reading host
 kindOf (suc zero) = writing host

@@ -1,4 +1,4 @@
--- "Numbers a step can answer": when each code is given, and that the lowest that applies is given.
+-- Numbers a step can answer: the test of each code, and which of those that apply is given.
 use Prim.Native.Nat.{ℕ, _%_}
 use mathlib.Core.Bool.{Bool, false, cond, not, _&&_, _||_}
 use mathlib.Core.List.{List, [], _∷_, _++_}
@@ -20,11 +20,11 @@ abbrev pub anyOf : List Bool → Bool
 anyOf [] = false
 anyOf (b ∷ bs) = b || anyOf bs
 
--- 1, of a lane: a fill above 8, an address that is no multiple of 4, a count above 03FFFFFF
+-- 1, of a lane: more words than fit in, an address that is no multiple of 4, a count of more than 26 bits
 abbrev pub laneFaults : Lane → List Bool
 laneFaults l = ltb depth (length (l .words)) ∷ not (eqb (l .address % 4) 0) ∷ ltb 0x03FF_FFFF (l .count) ∷ []
 
--- 1, of all: either lane, an INTCSR bit held other than the kept ones and 16 to 21, an MCSR bit held other than the kept ones
+-- 1, of all: either lane, a bit in INTCSR that is neither kept nor a flag, a bit in MCSR that is not kept
 abbrev pub faults : State → List Bool
 faults st =
     anyOf (laneFaults (st .fromPci)) ∷ anyOf (laneFaults (st .fromAddon)) ∷ not (only intcsrHeld (st .intcsr)) ∷ not (only mcsrKept (st .mcsr)) ∷ []
@@ -44,7 +44,7 @@ hasBadEnables x = isAccess (x .kind) && ltb 15 (x .enables)
 unfoldable pub isPartFifoAccess : Access → Bool
 isPartFifoAccess x = isAccess (x .kind) && eqb (x .offset) fifoPort && not (eqb (x .enables) 15)
 
--- 7: a write to a read-only register
+-- 7: the side may only read the register that it writes
 unfoldable pub isReadOnlyWrite : Access → Bool
 isReadOnlyWrite x = either (λ side. isWrite side (x .kind) && isReadOnly side (x .offset))
 
@@ -95,6 +95,6 @@ abbrev pub firstOf : List (ℕ × Bool) → ℕ
 firstOf [] = done
 firstOf (t ∷ ts) = cond (t .1) (t .0) (firstOf ts)
 
--- "The lowest code that applies is given", for a memory of so many words
+-- of all codes that apply the lowest, since the tests stand in their order; for a memory of so many words
 unfoldable pub codeOf : State → ℕ → ℕ → Access → ℕ
 codeOf st start words x = firstOf (tests st start words x)

@@ -1,4 +1,4 @@
--- "FIFOs and memory cycles": the address and count registers, and what a memory cycle moves.
+-- FIFOs and memory cycles: the address and count registers, and what a memory cycle moves.
 use Prim.Native.Nat.{ℕ, _+_, _-_, _%_, _^_, min}
 use mathlib.Core.Bool.{Bool, cond}
 use mathlib.Core.List.{List}
@@ -13,11 +13,11 @@ use Rattle.machine.specs.Fifos.{front, amount, fifoAfter}
 use Rattle.machine.specs.Window.{placeOf}
 use Rattle.machine.specs.Mcsr.{fourBit}
 
--- "n the lesser of 4 and the count", in bytes. Counts of bytes and fills of words are numbers here; the code keeps them apart by type.
+-- n, the bytes that a cycle moves: four, or all that the count has left. Counts of bytes and fills of words are numbers here; the code keeps them apart by type.
 abbrev pub moved : ℕ → ℕ
 moved count = min 4 count
 
--- "the lowest n enables"
+-- the enables of those bytes, from byte 0 up
 unfoldable pub lowEnables : ℕ → ℕ
 lowEnables count = 2 ^ moved count - 1
 
@@ -29,7 +29,7 @@ unfoldable pub isReady : Side → State → Bool
 isReady side st = leb (needed side (st .mcsr)) (amount side (held side st))
 
 -- The word that a cycle answers: a write cycle the whole front word that it takes,
--- a read cycle the memory word that it lets in, bytes n and up made zero (house).
+-- a read cycle the memory word that it lets in, of which only the lowest n bytes are taken, zero above them (house).
 unfoldable pub cycleWord : Side → State → ℕ → List ℕ → ℕ
 cycleWord pci st start memory = let l = lane pci st in shown (getD memory (placeOf start (l .address)) 0) (lowEnables (l .count))
 cycleWord addon st start memory = front (held addon st)
@@ -41,22 +41,22 @@ stored st start memory =
     let at = placeOf start (l .address) in
     set memory at (merged (getD memory at 0) (front (l .words)) (lowEnables (l .count)))
 
--- "Address registers keep bits 31 to 2, counts keep bits 25 to 0"; code 1 asks for the same of what is held
+-- Register offsets: an address has no bits 1 and 0, a count none above 25; code 1 asks for the same of what is held
 abbrev pub addressKept : ℕ
 addressKept = ones 2 31
 
 abbrev pub countKept : ℕ
 countKept = ones 0 25
 
--- "adds 4 to the address. The address after FFFFFFFC is 00000000"
+-- a cycle moves its address on by one word, whatever n is; past the highest word comes address 0
 abbrev pub nextAddress : ℕ → ℕ
 nextAddress address = (address + 4) % 2 ^ 32
 
--- "subtracts n from the count"
+-- and takes what it moved off its count
 abbrev pub countLeft : ℕ → ℕ
 countLeft count = count - moved count
 
--- "A count that a cycle brings to zero"
+-- nothing is left of the count
 abbrev pub runsOut : ℕ → Bool
 runsOut count = eqb (countLeft count) 0
 

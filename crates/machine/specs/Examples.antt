@@ -1,4 +1,4 @@
--- "Marked examples": the ten, as one table. Each goes from reset with the log program's memory, 4,096 zero words at address 0, unless said.
+-- Marked examples: the ten, as one table. Where nothing else is said, one begins at reset with the memory of the log program.
 use Prim.Native.Nat.{ℕ}
 use mathlib.Core.Path.{_≡_}
 use mathlib.Core.Bool.{true, false}
@@ -88,7 +88,7 @@ abbrev pub example : List Step → List Answer → Example
 example steps answers =
     record { state = resetState; start = 0; memory = zeroWords; steps = steps; answers = answers; places = []; words = [] }
 
--- 7: address 100, count 5, write cycles on, two words; two cycles; the count, the address and INTCSR are read
+-- 7: five bytes to 100 by two write cycles; then the count, the address and INTCSR are read
 abbrev pub sevenSteps : List Step
 sevenSteps =
     pciWrite 0x24 0x100 ∷ pciWrite 0x28 5 ∷ pciWrite 0x3C 0x400 ∷ addonWrite 0x20 0x11223344 ∷ addonWrite 0x20 0x55667788
@@ -115,7 +115,7 @@ afterSeven steps answers =
       words = 0x11223344 ∷ 0xAAAAAA88 ∷ [];
     }
 
--- 9: an address, count 4, write cycles on, a word held; the four steps before the first cycle
+-- 9: the four steps before its first cycle, which would move one word to an address
 abbrev pub nineSteps : ℕ → List Step
 nineSteps address = pciWrite 0x24 address ∷ pciWrite 0x28 4 ∷ pciWrite 0x3C 0x400 ∷ addonWrite 0x20 7 ∷ []
 

@@ -1,4 +1,4 @@
--- "FIFOs and memory cycles": the two FIFOs, as lists of words, front first. Each is named by the side that feeds it.
+-- FIFOs and memory cycles: the two FIFOs, as lists of words, front first. Each is named by the side that feeds it.
 use Prim.Native.Nat.{ℕ, _-_}
 use mathlib.Core.Bool.{Bool, false, cond, _||_}
 use mathlib.Core.List.{List, [], _∷_, _++_}
@@ -9,7 +9,7 @@ use Rattle.machine.specs.Offsets.{fifoPort}
 use Rattle.machine.specs.Access.{Access, reads, writes, cycles}
 use Rattle.machine.specs.Commands.{clearsFifo}
 
--- "Each FIFO holds eight 32-bit words; room freed is used again": a fill is the length of the list, whatever went before
+-- how many words fit in; a fill is the length of the list, whatever went before, so a place once used is free again
 abbrev pub depth : ℕ
 depth = 8
 
@@ -27,12 +27,12 @@ abbrev pub amount : Side → List ℕ → ℕ
 amount pci ws = depth - length ws
 amount addon ws = length ws
 
--- read cycles feed the PCI-to-Add-On FIFO; no cycle feeds the other
+-- a read cycle puts a word in with those from PCI; no cycle does with those from the Add-On
 abbrev pub cycleFeeds : Side → Access → Bool
 cycleFeeds pci x = cycles pci (x .kind)
 cycleFeeds addon x = false
 
--- write cycles empty the Add-On-to-PCI FIFO; no cycle empties the other
+-- a write cycle takes a word of those from the Add-On; no cycle takes one of those from PCI
 abbrev pub cycleTakes : Side → Access → Bool
 cycleTakes pci x = false
 cycleTakes addon x = cycles addon (x .kind)

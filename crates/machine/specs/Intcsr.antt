@@ -1,4 +1,4 @@
--- INTCSR: what it keeps, the events, and the interrupt line ("INTCSR and MCSR").
+-- INTCSR and MCSR: what INTCSR keeps, the events, and the interrupt line.
 use Prim.Native.Nat.{ℕ, _+_, _/_, _%_, _^_}
 use mathlib.Core.Bool.{Bool, true, cond, _&&_, _||_}
 use lib.Dec.{eqb}
@@ -11,18 +11,18 @@ use Rattle.machine.specs.Access.{Access, Kind, reading, writing, cycle, 
 use Rattle.machine.specs.Mailboxes.{fillsByte, takesByte}
 use Rattle.machine.specs.Cycles.{runsOut}
 
--- "keeps bits 0 to 4, 8 to 12, 14, 15"
+-- the bits that stay as written: 4 to 0, 12 to 8, 15 and 14
 abbrev pub intcsrKept : ℕ
 intcsrKept = ones 0 4 + ones 8 12 + ones 14 15
 
--- the bits that events set and a written one clears: 16 to 21
+-- the flags, which events set and a written one clears: 21 to 16
 abbrev pub intcsrEvents : ℕ
 intcsrEvents = ones 16 21
 
 abbrev pub intcsrHeld : ℕ
 intcsrHeld = intcsrKept + intcsrEvents
 
--- the kept bits are written; "Writing one to any of bits 16 to 21 clears it", where its byte is enabled
+-- the kept bits are written; a one written to a flag clears it, a zero leaves it; both only where the byte is enabled
 unfoldable pub intcsrWritten : ℕ → ℕ → ℕ → ℕ
 intcsrWritten old new enables = bitOr (written intcsrKept old new enables) (cleared (bitAnd old intcsrEvents) (shown new enables))
 
@@ -41,7 +41,7 @@ outgoingEvent i x = bit i 4 && takesByte (chosenOutgoing i) x
 unfoldable pub incomingEvent : ℕ → Access → Bool
 incomingEvent i x = bit i 12 && fillsByte (chosenIncoming i) x
 
--- the bit for a count that a cycle brings to zero: 18 for a write cycle, 19 for a read cycle
+-- the flag of a cycle that uses its count up: 18 of a write cycle, 19 of a read cycle
 abbrev pub countBit : Side → ℕ
 countBit pci = 19
 countBit addon = 18
@@ -63,7 +63,7 @@ abortIn i = bit i 20 || bit i 21
 unfoldable pub intcsrAborted : ℕ → ℕ
 intcsrAborted i = raised i true 20
 
--- "the interrupt line: 16 with 4, 17 with 12, 18 with 14, 19 with 15, or 20, or 21"
+-- the line is up while a flag of 16 to 19 stands together with its enable (4, 12, 14, 15), or an abort stands, which has no enable
 unfoldable pub lineOf : ℕ → Bool
 lineOf i = bit i 16 && bit i 4 || bit i 17 && bit i 12 || bit i 18 && bit i 14 || bit i 19 && bit i 15 || abortIn i
 

@@ -1,4 +1,4 @@
--- "Mailboxes": who fills and who empties a byte, and the eight words and thirty-two marks after a done step that is no reset.
+-- Mailboxes: who fills and who empties a byte, and the eight words and thirty-two marks after a done step that is no reset.
 -- Enables of 0 touch no byte.
 use Prim.Native.Nat.{ℕ, _*_, _%_, _^_}
 use mathlib.Core.Bool.{Bool, cond, _&&_}
@@ -15,7 +15,7 @@ use Rattle.machine.specs.Commands.{clearsMarks}
 unfoldable pub marksAt : ℕ → ℕ → ℕ
 marksAt offset enables = enables % 16 * 2 ^ offset
 
--- a write by the owner, and a read by the other side
+-- the owner writes the mailbox; the side that does not own it reads it
 abbrev pub fills : Access → Bool
 fills x = isWriteBy (writer (x .offset)) (x .kind) && isMailbox (x .offset)
 
@@ -29,7 +29,7 @@ fillsByte k x = fills x && bit (marksAt (x .offset) (x .enables)) k
 abbrev pub takesByte : ℕ → Access → Bool
 takesByte k x = takes x && bit (marksAt (x .offset) (x .enables)) k
 
--- MCSR "27 marks every mailbox byte empty"; an owner's write marks each enabled byte full, the other side's read marks it empty;
+-- MCSR 27 leaves no mark; an owner's write marks each enabled byte full, the other side's read marks it empty;
 -- any other, the owner's own read too, changes no mark
 unfoldable pub marksAfter : Access → ℕ → ℕ
 marksAfter x marks =

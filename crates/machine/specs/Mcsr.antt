@@ -1,4 +1,4 @@
--- MCSR: what it keeps, and its status ("INTCSR and MCSR").
+-- INTCSR and MCSR: what MCSR keeps, and its status.
 use Prim.Native.Nat.{ℕ, _+_, _*_, _^_}
 use mathlib.Core.Bool.{cond}
 use mathlib.Core.List.{List}
@@ -11,11 +11,11 @@ use Rattle.machine.specs.Offsets.{mcsrAt}
 use Rattle.machine.specs.Access.{Access, writes}
 use Rattle.machine.specs.Fifos.{isEmpty, isFull, amount}
 
--- "keeps 15 to 12 and 10 to 8"
+-- the bits that stay as written: 15 to 8 without 11
 abbrev pub mcsrKept : ℕ
 mcsrKept = ones 12 15 + ones 8 10
 
--- "Bit 10 enables write cycles, 14 read cycles; 15, 12, 8 have no effect": no rule names those three
+-- the bit that lets a cycle on a lane go; 8, 12 and 15 are kept and do nothing: no rule names them
 abbrev pub enableBit : Side → ℕ
 enableBit pci = 14
 enableBit addon = 10
@@ -28,11 +28,11 @@ fourBit addon = 9
 unfoldable pub mcsrAfter : Access → ℕ → ℕ
 mcsrAfter x old = cond (writes pci mcsrAt x) (written mcsrKept old (x .value) (x .enables)) old
 
--- FIFO status: 2 empty, 1 four or more (free for PCI's, held for the Add-On's), 0 full
+-- three bits of a FIFO: empty at 2, full at 0; at 1 four or more, counting free places of the one from PCI and words of the one from the Add-On
 unfoldable pub fifoStatus : Side → List ℕ → ℕ
 fifoStatus side ws = bitOr (bitOr (flag (isEmpty ws) 2) (flag (leb 4 (amount side ws)) 1)) (flag (isFull ws) 0)
 
--- Status: 7 write count zero, 6 read count zero, 5 to 3 the Add-On-to-PCI FIFO, 2 to 0 the PCI-to-Add-On FIFO
+-- bits 7 and 6: the write count, the read count is zero; then the three bits of the FIFO from the Add-On, and lowest those of the one from PCI
 unfoldable pub mcsrStatus : State → ℕ
 mcsrStatus st =
     bitOr (bitOr (flag (eqb (lane addon st .count) 0) 7) (flag (eqb (lane pci st .count) 0) 6))

@@ -1,4 +1,4 @@
--- Cases beside the marked examples: sentences of document 01 that the ten do not reach, as a second table of the same form.
+-- The table `Neighbours`: cases of our own, of the same form, for rules of document 01 that the ten marked examples do not reach.
 use Prim.Native.Nat.{ℕ}
 use mathlib.Core.List.{List, [], _∷_, _++_, map}
 use lib.ListN.{set, replicate}
@@ -137,7 +137,7 @@ mailCases =
 
 abbrev pub cycleCases : List Example
 cycleCases =
-    -- MCSR 25 empties the PCI-to-Add-On FIFO only, 26 the other, where their byte is enabled
+    -- MCSR 25 empties the FIFO from PCI only, 26 the one from the Add-On, where their byte is enabled
     example
     (pciWrite 0x20 1 ∷ addonWrite 0x20 2 ∷ stepBy 1 0x3C 7 0x06000000 ∷ stepBy 1 0x3C 8 0x02000000 ∷ pciRead 0x3C ∷ addonRead 0x20 ∷ stepBy 1 0x3C 8 0x04000000
     ∷ pciRead 0x20 ∷ [])
@@ -212,7 +212,7 @@ eventCases =
     ∷ example
     (pciWrite 0x38 0x1E00 ∷ stepBy 3 0x1C 11 0 ∷ addonWrite 0x18 0 ∷ pciRead 0x1C ∷ stepBy 3 0x1C 4 0 ∷ pciRead 0x38 ∷ pciWrite 0x38 0x20000 ∷ addonWrite 0x1C 0 ∷ [])
     (ok ∷ ok ∷ ok ∷ ok ∷ high ok ∷ high (says 0x821E00) ∷ ok ∷ ok ∷ [])
-    -- a flag without its enable is no line: 16 with 4, 17 with 12, 18 with 14, 19 with 15; 20 and 21 by themselves
+    -- a flag without its own enable is no line: first each enable with the three flags that are not its own, then with its own; 21 needs none
     ∷ case (stateBy resetLane resetLane 0xE0F1F 0) 0 [] (pciRead 0x34 ∷ []) (says 0 ∷ [])
     ∷ case (stateBy resetLane resetLane 0xD1F0F 0) 0 [] (pciRead 0x34 ∷ []) (says 0 ∷ [])
     ∷ case (stateBy resetLane resetLane 0xB4F0F 0) 0 [] (pciRead 0x34 ∷ []) (says 0 ∷ [])

@@ -1,10 +1,10 @@
--- "Register offsets": the tables of both sides.
+-- Register offsets: the tables of both sides.
 use Prim.Native.Nat.{ℕ, _/_, _%_}
 use mathlib.Core.Bool.{Bool, cond, not, _&&_, _||_}
 use lib.Dec.{eqb, ltb}
 use Rattle.machine.specs.Sides.{Side, pci, addon, Party, host, card, partyOf, sameParty}
 
--- 00 to 0C the PCI's outgoing mailboxes 1 to 4, 10 to 1C its incoming ones, for both sides alike
+-- eight mailboxes, four bytes apart from 00 on: PCI's four outgoing ones, then its four incoming ones; both sides have them at the same offsets
 abbrev pub isMailbox : ℕ → Bool
 isMailbox offset = ltb offset 0x20 && eqb (offset % 4) 0
 

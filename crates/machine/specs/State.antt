@@ -25,11 +25,11 @@ abbrev pub lane : Side → State → Lane
 lane pci st = st .fromPci
 lane addon st = st .fromAddon
 
--- the words that the FIFO fed by a side holds: two FIFOs are equal if these are
+-- the words that the FIFO fed by a side holds; they are all that there is to a FIFO
 abbrev pub held : Side → State → List ℕ
 held side st = lane side st .words
 
--- "Reset puts zero in every register, mailbox byte and mark and empties both FIFOs"
+-- Register offsets: after a reset everything held is zero and no word is in a FIFO
 abbrev pub resetLane : Lane
 resetLane = record { words = []; address = 0; count = 0 }
 

@@ -60,7 +60,7 @@ doneReply (cycle side) st start memory x =
 doneReply chipReset st start memory x = nothing
 doneReply unknown st start memory x = nothing
 
--- code 13 "returns the address, zero data and zero enables"
+-- code 13: of the three numbers only the address, the one at which there is no memory
 unfoldable pub abortedReply : Kind → State → Reply
 abortedReply (reading party) st = nothing
 abortedReply (writing party) st = nothing
@@ -68,12 +68,12 @@ abortedReply (cycle side) st = record { address = lane side st .address; value =
 abortedReply chipReset st = nothing
 abortedReply unknown st = nothing
 
--- of any other code, "data, address and enables are zero"
+-- any other code answers nothing besides itself and the line
 unfoldable pub replyOf : State → ℕ → List ℕ → Access → ℕ → Reply
 replyOf st start memory x code =
     cond (eqb code done) (doneReply (x .kind) st start memory x) (cond (eqb code noMemoryThere) (abortedReply (x .kind) st) nothing)
 
--- the line after the step: "zero for code 1, else that of the state"
+-- the line of the state that is left; for code 1, whose state cannot be trusted, it is low
 unfoldable pub answered : State → ℕ → Reply → Answer
 answered after code r =
     record {
@@ -102,7 +102,7 @@ doneState st x word =
       mcsr = mcsrAfter x (st .mcsr);
     }
 
--- "Code 13 sets INTCSR bit 20 only"
+-- code 13: flag 20 of INTCSR goes up, and all else stays
 unfoldable pub abortedState : State → State
 abortedState st =
     record {
@@ -114,7 +114,7 @@ abortedState st =
       mcsr = st .mcsr;
     }
 
--- "Codes 1 to 12 and 14 change nothing"
+-- a refusal by any code but 13 leaves the state as it was
 unfoldable pub stateAfter : State → Access → ℕ → ℕ → State
 stateAfter st x code word =
     cond (eqb code done) (cond (isReset (x .kind)) resetState (doneState st x word))

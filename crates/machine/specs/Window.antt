@@ -1,4 +1,4 @@
--- "A step and its answer": host memory, a run of words with a start address.
+-- A step and its answer: host memory, a run of words with a start address.
 use Prim.Native.Nat.{ℕ, _+_, _-_, _/_, _%_, _^_}
 use mathlib.Core.Bool.{Bool, not, _||_}
 use mathlib.Core.List.{List}
@@ -9,18 +9,18 @@ use lib.ListN.{replicate}
 abbrev pub minus : ℕ → ℕ → ℕ
 minus a b = (a + (2 ^ 32 - b % 2 ^ 32)) % 2 ^ 32
 
--- the word's place: address minus start, modulo 2^32, divided by 4, rounded down
+-- a word's place in the run: how many whole words its address lies past the start, counted round 2^32
 unfoldable pub placeOf : ℕ → ℕ → ℕ
 placeOf start address = minus address start / 4
 
--- an address belongs to the memory if its place is less than the number of words; so a window may wrap, and one of no words has no address
+-- the address has a place in a run of so many words; so a window may wrap, and one of no words has no address
 abbrev pub inside : ℕ → ℕ → ℕ → Bool
 inside start words address = ltb (placeOf start address) words
 
--- "At most 16,384 words; none at all is allowed", and a start that is a multiple of 4
+-- code 2: the start is no multiple of 4, or there are more than 16,384 words; to have none is no fault
 unfoldable pub isWindowOutOfForm : ℕ → ℕ → Bool
 isWindowOutOfForm start words = not (eqb (start % 4) 0) || ltb 16384 words
 
--- "4,096 zero words of memory at address 0", where the log program, the C call and the marked examples begin
+-- the memory with which the log program, the C call and the marked examples begin; it starts at address 0
 abbrev pub zeroWords : List ℕ
 zeroWords = replicate 4096 0

@@ -1,4 +1,4 @@
--- Words, bytes and bits. "A step and its answer": enable bit i means that byte i takes part; the number is not active low, as the bus signals are.
+-- Words, bytes and bits. A step and its answer: an access touches byte i where bit i of its enables is one (on the bus it would be zero).
 use Prim.Native.Nat.{ℕ, suc, _+_, _-_, _*_, _/_, _%_, _^_}
 use mathlib.Core.Bool.{Bool, cond}
 use lib.Dec.{eqb}
@@ -32,11 +32,11 @@ cleared x y = bitAnd x (ones 0 31 - y)
 unfoldable pub raised : ℕ → Bool → ℕ → ℕ
 raised x on k = cond on (bitOr x (2 ^ k)) x
 
--- "Bytes not enabled in a read answer are zero (house)": the enabled bytes of x, zero at the others
+-- A step and its answer: what a read shows of x, its enabled bytes; zero at the others (house)
 unfoldable pub shown : ℕ → ℕ → ℕ
 shown x enables = bitAnd x (mask enables)
 
--- "All writes take enabled bytes only": the enabled bytes of new, the others of old
+-- Register offsets: a write reaches the enabled bytes, which are those of new; the others stay those of old
 unfoldable pub merged : ℕ → ℕ → ℕ → ℕ
 merged old new enables = bitOr (cleared old (mask enables)) (shown new enables)
 

@@ -10,7 +10,7 @@ pub const WORD_BYTES: u32 = 4;
 
 pub const ALL_ENABLES: u32 = 15;
 
-// A step: its kind, an offset, byte enables and 32-bit data. Any four numbers make a step.
+// A step, in four numbers; `value` is its data. Any four make a step.
 pub struct Step {
     pub kind: u32,
     pub offset: u32,
@@ -18,7 +18,7 @@ pub struct Step {
     pub value: u32,
 }
 
-// An answer: its code, an address, data, enables, and the interrupt line after the step.
+// An answer, in four numbers and the level of the interrupt line once the step is over; `value` is its data.
 pub struct Answer {
     pub code: u32,
     pub address: u32,

@@ -33,7 +33,7 @@ fn is_owner_write(s: Step) -> bool
     s.kind == kinds::ADDON_WRITE
 }
 
-// Whether it is a read by the other side.
+// Whether it is a read by the side that does not own that mailbox.
 fn is_other_read(s: Step) -> bool
     ensures { λ r. ⌜ r ≡ isReadBy (reader (s .offset)) (kindOf (s .kind)) ⌝ }
 {
@@ -50,7 +50,7 @@ fn fills(s: Step) -> bool
     is_owner_write(s) & is_mailbox(s.offset)
 }
 
-// A read by the other side.
+// A read by the side that does not own the mailbox.
 fn takes(s: Step) -> bool
     ensures { λ r. ⌜ r ≡ takes (accessOf s) ⌝ }
 {

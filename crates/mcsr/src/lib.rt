@@ -12,7 +12,7 @@ use machine::Step;
 use machine::kinds;
 use machine::offsets;
 
-// The bits that it keeps: 15 to 12 and 10 to 8.
+// The bits that it keeps: 15 to 8 without 11.
 pub const KEPT: u32 = 0x0000_F700;
 
 // Enables and thresholds of the cycles.

@@ -1,4 +1,4 @@
--- Sentences of document 01 about bits and bytes, stated bit by bit of the rules that go by masks.
+-- What the rules that go by masks mean, stated bit by bit; and what single steps leave and answer.
 use Prim.Native.Nat.{ℕ, _+_, _-_, _*_, _/_, _%_, _^_, _≤_, _<_, min}
 use mathlib.Core.Path.{_≡_}
 use mathlib.Core.Bool.{Bool, true, false, cond, not, _&&_, _||_}
@@ -34,7 +34,7 @@ WrittenBits =
     (k : ℕ) → k < 32 → (keeps old new enables : ℕ)
     → bit (written keeps old new enables) k ≡ (cond (bit enables (k / 8)) (bit new k) (bit old k) && bit keeps k)
 
--- `kept-bits`: addresses keep bits 31 to 2, counts 25 to 0, INTCSR 0 to 4, 8 to 12, 14, 15, MCSR 15 to 12 and 10 to 8; events are 16 to 21
+-- `kept-bits`: of what is written an address keeps all but 1:0, a count 25:0, INTCSR 4:0, 12:8 and 15:14, MCSR 15:12 and 10:8; INTCSR's flags are 21:16
 pub record KeptBits (k : ℕ) : Type 0 where
   pub address : bit addressKept k ≡ leb 2 k
   pub count : bit countKept k ≡ leb k 25
@@ -45,7 +45,7 @@ pub record KeptBits (k : ℕ) : Type 0 where
 abbrev pub KeptBitsHold : Type 0
 KeptBitsHold = (k : ℕ) → k < 32 → KeptBits k
 
--- `low-enables`: the lowest n enables, n the lesser of 4 and the count
+-- `low-enables`: enable bit i is set for the bytes that a cycle moves: i below 4 and below the count
 abbrev pub LowEnables : Type 0
 LowEnables = (count i : ℕ) → bit (lowEnables count) i ≡ ltb i (min 4 count)
 
@@ -104,7 +104,7 @@ MemoryRule =
     let cycle = eqb (o .answer .code) 0 && eqb (s .kind) 4 in
     (cycle ≡ false → o .memory ≡ memory) × (cycle ≡ true → Stores st start memory (o .memory)))
 
--- what a done read cycle answers, and so by `fifo-account` lets in: the memory word at the place of its address, bytes n and up made zero (house)
+-- what a done read cycle answers, and so by `fifo-account` lets in: the lowest n bytes of the memory word at its place, zero above them (house)
 pub record Loads (st : State) (start : ℕ) (memory : List ℕ) (word : ℕ) : Type 0 where
   pub inside : placeOf start (st .fromPci .address) < length memory
   pub bytes :

@@ -24,7 +24,7 @@ use Rattle.machine.specs.declared.Answer.{Answer}
 abbrev pub Numbered : Type 0
 Numbered = (st : State) (start : ℕ) (memory : List ℕ) (s : Step) → stepOf st start memory s .answer .code ≤ 13
 
--- an answer that only refuses: zero data, address and enables; the line is zero for code 1, else that of the state
+-- an answer that only refuses: nothing but the code, and the line of the state (low for code 1)
 abbrev pub refusal : ℕ → State → Answer
 refusal code st = record { code = code; address = 0; value = 0; enables = 0; line = cond (eqb code 1) false (lineOf (st .intcsr)) }
 
@@ -52,7 +52,7 @@ pub record AbortOnly (st after : State) : Type 0 where
 abbrev pub cycleAddress : State → Step → ℕ
 cycleAddress st s = cond (eqb (s .kind) 4) (st .fromAddon .address) (cond (eqb (s .kind) 5) (st .fromPci .address) 0)
 
--- `aborted`: code 13 sets INTCSR bit 20 and nothing else; it returns the address, zero data and zero enables, and the line is 1
+-- `aborted`: by code 13 flag 20 of INTCSR goes up and nothing else changes; it answers the address of the cycle, no data, no enables, and the line 1
 abbrev pub Aborted : Type 0
 Aborted =
     (st : State) (start : ℕ) (memory : List ℕ) (s : Step)
@@ -120,7 +120,7 @@ MailAccount =
     → (let r = run resetState start memory steps in bit (r .state .marks) k ≡ wasWrite (latest k (r .events)))
 
 -- `mail-bytes`: byte k % 4 of mailbox word k / 4 is that byte of the data of the latest of its owner's writes with that byte enabled, done since the last
--- done reset, and zero if there is none. So what `read-answers` says of a mailbox is "the byte last stored", of an empty byte too
+-- done reset, and zero if there is none. So by `read-answers` a mailbox shows the bytes last stored in it, whether they are full or empty
 abbrev pub MailBytes : Type 0
 MailBytes =
     (k : ℕ) → k < 32 → (start : ℕ) (memory : List ℕ) (steps : List Step)

@@ -1,4 +1,4 @@
--- "Any two results that satisfy it are shown equal": the contract of nearly every public function is one equation, `view result ≡ value`,
+-- How tight the contracts are: one contract has one result. The contract of nearly every public function is one equation, `view result ≡ value`,
 -- where the view is the result itself, the words that a FIFO holds, the number of a count or a fill, the machine's state of a controller, or its
 -- outcome of a stepped one with the memory.
 use mathlib.Core.Path.{_≡_}

@@ -1,4 +1,4 @@
--- "How tight the contracts are": four worthless models, each with a free choice of all that its vice leaves open, and what each breaks.
+-- How tight the contracts are: four worthless models, each with a free choice of all that its vice leaves open, and what each breaks.
 use Prim.Native.Nat.{ℕ, suc}
 use mathlib.Core.Path.{_≡_}
 use mathlib.Core.Bool.{true}
@@ -51,7 +51,7 @@ StillFails = (answer : State → ℕ → List ℕ → Step → Answer) → Meets
 abbrev pub FirstOnlyFails : Type 0
 FirstOnlyFails = (echo : Step → Answer) → MeetsTable (firstOnly echo) marked → ⊥
 
--- `constant-breaks`, `still-breaks`: if they answer done to a port write, they break the FIFO account too
+-- `constant-breaks`, `still-breaks`: with code 0 for a port write, they break the FIFO account too
 abbrev pub ConstantBreaks : Type 0
 ConstantBreaks =
     (answer : Answer) (rule : Rule) → answer .code ≡ 0 → KeepsFifoAccount (constant answer rule) → ⊥

@@ -1,4 +1,4 @@
-// A line reader. It stands over the text it was given, and each line is handed out as part of that text. The functions of `lines`, on a text and a position, do the work.
+// A line reader: a text and a position in it. Its lines are parts of the text, not copies. The functions of `lines`, on a text and a position, do the work.
 ghost use mathlib.Core.Path.{_≡_};
 ghost use Rattle.lines.specs.Lines.{pastLine, Part};
 
