@@ -93,7 +93,7 @@ TextRuns = (st : State) (start : ℕ) (memory : List ℕ) (ls : List (List ℕ))
 
 -- ---- the worked frames
 
--- the log of a text under a set as the log program has it: from reset, with 4,096 zero words of memory at address 0
+-- the log of a text under a set as the log program has it: it begins at reset, over `zeroWords` from address 0 on
 unfoldable pub programLog : ℕ → List ℕ → List ℕ
 programLog set text = logOf set (textTold resetState 0 zeroWords text .answers)
 

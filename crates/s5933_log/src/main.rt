@@ -1,4 +1,4 @@
-// The log program: standard input, of any length, from reset with 4,096 zero words of memory at address 0, and its log to
+// The log program: standard input, of any length, on a controller fresh from reset over 4,096 words of zeros, and its log to
 // standard output. What a piece is answered is proved of `input`; that the pieces are fed in order, at start 0, is read here and tested.
 ghost use mathlib.Core.Path.{_≡_};
 ghost use mathlib.Core.Bool.{true};

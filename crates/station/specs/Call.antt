@@ -19,7 +19,7 @@ use Rattle.log.specs.Promises.{programLog}
 unfoldable pub fromReset : ℕ → List ℕ → List ℕ → TextRun
 fromReset set input output = textRun set resetState 0 zeroWords input output
 
--- the input exceeds 1,048,576 bytes
+-- the longest input has 1,048,576 bytes
 unfoldable pub isTooLong : List ℕ → Bool
 isTooLong input = ltb 1_048_576 (length input)
 
@@ -51,11 +51,11 @@ EmptyCall = (set : ℕ) (output : List ℕ) → isSet set ≡ true → (resultOf
 
 -- in the documents' numbers; -3 is `negsuc 2`, -2 is `negsuc 1`, -1 is `negsuc 0`
 pub record Calls (set : ℕ) (input output : List ℕ) (r : ℤ) (after : List ℕ) : Type 0 where
-  -- -2 if the input exceeds 1,048,576 bytes, and the output is as it was
+  -- an input above 1,048,576 bytes: -2, and the output is as it was
   pub tooLong : 1_048_576 < length input → (r ≡ negsuc 1) × (after ≡ output)
-  -- or else -3 if the number is no label set's, and the output is as it was
+  -- any other, under a number that is no label set: -3, and the output is as it was
   pub unknownSet : length input ≤ 1_048_576 → isSet set ≡ false → (r ≡ negsuc 2) × (after ≡ output)
-  -- or else -1 exactly if the output has fewer than 40 bytes for each line of the input, and the output is as it was
+  -- under a set, with an output shorter than 40 bytes a line: -1, and the output is as it was
   pub noRoom : length input ≤ 1_048_576 → isSet set ≡ true → length output < 40 * length (lines input) → (r ≡ negsuc 0) × (after ≡ output)
   -- else the number of bytes of the log: the output begins with the log program's log, every byte past it is as it was, and there are no more and no fewer
   pub logged :

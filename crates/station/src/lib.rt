@@ -5,9 +5,9 @@ use log::Logged;
 // The longest input, in bytes.
 const INPUT_MOST: usize = 1_048_576;
 
-// Runs the input from reset, with 4,096 zero words of memory at address 0, and writes the log from the output's start, with the
-// labels of a set. It returns the number of bytes of the log; or -2 if the input exceeds 1,048,576 bytes; or else -3 if the set is
-// unknown; or else -1 if the output has fewer than 40 bytes for each line of the input.
+// Runs the input on a controller fresh from reset, over 4,096 words of zeros from address 0 on, and writes the log from the
+// output's start, with the labels of a set. It returns how many bytes the log has. It refuses, and writes nothing, by -2 an input
+// above the limit, then by -3 a number that is no set, then by -1 an output shorter than 40 bytes a line.
 #[no_mangle]
 pub extern "C" fn s5933_log(input: &[u8], output: &mut [u8], set: u32) -> i64
     ensures { λ r. ⌜ CallPromised set (now (input .entry)) (now (output .entry)) r (now (output .exit)) ⌝ }
