@@ -7,8 +7,7 @@ use native.Mathlib.Omega.{arith}
 use native.Mathlib.Decide.{ℕ-discrete}
 use lib.Dec.{ltb}
 use Rattle.hex.specs.Hex.{hexDigits, placeIn, digitNumber, digitOf, allDigits, numberFrom, number, digits}
-use Rattle.logline.specs.Labels.{english, german, labelSets, isSet, labelOf}
-use Rattle.logline.specs.LogLine.{numbers, logBody, logLine}
+use Rattle.logline.specs.Labels.{labelSets, isSet}
 use Rattle.logline.proofs.Labels.{every}
 use Rattle.logline.proofs.Bytes.{every-digits}
 use Rattle.hex.proofs.Below.{both}
@@ -20,15 +19,11 @@ use Rattle.input.specs.declared.Reading.{Reading}
 use Rattle.input.specs.declared.Reading.the-variants.{FirstLine, Frames, Over}
 use Rattle.input.specs.declared.SetLine.{SetLine}
 use Rattle.input.specs.declared.SetLine.the-variants.{Nothing, Digit, Number}
-use Rattle.input.specs.Input.{refusal, isSetLine, inputLog, heard, passing}
-use Rattle.input.specs.Promises.{RefusalLine, OverAtOnce, SetChosen, InputsCut}
+use Rattle.input.specs.Input.{isSetLine, inputLog, heard, passing}
+use Rattle.input.specs.Promises.{OverAtOnce, SetChosen, InputsCut}
 use Rattle.input.proofs.Passing.{heard-lf, heard-other, heard-second, heard-no-second, heard-first, heard-no-first}
 use Rattle.input.proofs.FirstLine.{firstLine, first-none, first-lf, first-more, past, past-lf, past-on, none-empty, none-short, none-long, pair, none-second, is-second, none-first, set-line-read}
 use Rattle.input.proofs.Joined.{lf-first, lf-second, first-digit}
-
-pub refusal-line : RefusalLine
-unfolding refusal logLine logBody numbers digits digitOf hexDigits labelOf labelSets english german
-refusal-line = refl
 
 -- ---- over at once
 

@@ -15,6 +15,7 @@ use Rattle.machine.specs.Window.{zeroWords}
 use Rattle.hex.specs.Hex.{hexDigits, placeIn, digitNumber, number, numberFrom}
 use Rattle.lines.specs.Lines.{linesFrom}
 use Rattle.logline.specs.Labels.{english, german, labelSets, isSet}
+use Rattle.logline.specs.LogLine.{refusal}
 use Rattle.log.specs.Log.{logOf, toldOf, textTold, fedOf}
 use Rattle.log.specs.Promises.{joined, piecesTold, programLog}
 use Rattle.log.proofs.Told.{log-append}
@@ -23,7 +24,7 @@ use Rattle.input.specs.declared.Reading.{Reading}
 use Rattle.input.specs.declared.Reading.the-variants.{FirstLine, Frames, Over}
 use Rattle.input.specs.declared.SetLine.{SetLine}
 use Rattle.input.specs.declared.SetLine.the-variants.{Nothing, Digit, Number}
-use Rattle.input.specs.Input.{refusal, isSetLine, inputLog, heard, hasSet, Passing, passing, refusalAfter, fedPast, fedInput, endedFirst, endedInput}
+use Rattle.input.specs.Input.{isSetLine, inputLog, heard, hasSet, Passing, passing, refusalAfter, fedPast, fedInput, endedFirst, endedInput}
 use Rattle.input.specs.Promises.{piecesLog, InputJoined}
 use Rattle.input.proofs.Passing.{passing-none, passing-frames, passing-over, passing-append, passing-rest, heard-lf, heard-other, heard-second, heard-no-second, heard-first, heard-no-first}
 use Rattle.input.proofs.FirstLine.{firstLine, past, first-none, past-none, first-lf, past-lf, first-more, past-on, none-empty, none-short, none-long, pair, none-second, pair-is, is-second, none-first}

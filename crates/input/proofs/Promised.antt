@@ -9,7 +9,7 @@ use Rattle.machine.specs.State.{State}
 use Rattle.controller.specs.Controller.{stateOf}
 use Rattle.lines.specs.Lines.{lines}
 use Rattle.logline.specs.Labels.{englishSet}
-use Rattle.logline.specs.LogLine.{lineRoom}
+use Rattle.logline.specs.LogLine.{unknownSet, refusal, lineRoom}
 use Rattle.logline.proofs.Labels.{line-fits}
 use Rattle.log.specs.declared.Logged.{Logged}
 use Rattle.log.specs.declared.Logged.the-variants.{Written, NoRoom}
@@ -18,7 +18,7 @@ use Rattle.input.specs.declared.Reading.{Reading}
 use Rattle.input.specs.declared.Reading.the-variants.{FirstLine, Frames, Over}
 use Rattle.input.specs.declared.SetLine.{SetLine}
 use Rattle.input.specs.declared.Input.{Input}
-use Rattle.input.specs.Input.{unknownSet, refusal, hasSet, passing, refusalAfter, fedPast, fedInput, endedFirst, endedInput}
+use Rattle.input.specs.Input.{hasSet, passing, refusalAfter, fedPast, fedInput, endedFirst, endedInput}
 use Rattle.input.specs.Results.{InputRun, withRoom, asItIs, linesLeft, InputFeedUnique, InputFinishUnique}
 
 module _ (i : Input) (start : ℕ) (memory out : List ℕ) where

@@ -4,27 +4,17 @@ use mathlib.Core.List.{List, [], _∷_}
 use mathlib.Core.Bool.{Bool, true, false, cond, _&&_}
 use lib.ListN.{length, drop}
 use lib.Dec.{ltb, eqb}
-use Rattle.machine.specs.Codes.{unknownLabelSet}
 use Rattle.machine.specs.State.{State}
-use Rattle.machine.specs.declared.Answer.{Answer}
 use Rattle.hex.specs.Hex.{digitNumber, allDigits, number}
 use Rattle.lines.specs.Lines.{lf, lineAt, pastLine}
-use Rattle.logline.specs.Labels.{englishSet, isSet}
-use Rattle.logline.specs.LogLine.{logLine}
+use Rattle.logline.specs.Labels.{isSet}
+use Rattle.logline.specs.LogLine.{refusal}
 use Rattle.log.specs.Log.{logOf, textTold, fedOf}
 use Rattle.log.specs.Promises.{programLog}
 use Rattle.input.specs.declared.Reading.{Reading}
 use Rattle.input.specs.declared.Reading.the-variants.{FirstLine, Frames, Over}
 use Rattle.input.specs.declared.SetLine.{SetLine}
 use Rattle.input.specs.declared.SetLine.the-variants.{Nothing, Digit, Number}
-
--- an unknown set is answered by code 15 and nothing else
-abbrev pub unknownSet : Answer
-unknownSet = record { code = unknownLabelSet; address = 0; value = 0; enables = 0; line = false }
-
--- the one line that refuses it, with its English label
-unfoldable pub refusal : List ℕ
-refusal = logLine englishSet unknownSet
 
 -- ---- a whole input
 

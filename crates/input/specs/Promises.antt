@@ -5,7 +5,7 @@ use mathlib.Core.List.{List, [], _∷_, _++_}
 use mathlib.Core.Bool.{true, false}
 use Rattle.machine.specs.State.{State, resetState}
 use Rattle.machine.specs.Window.{zeroWords}
-use Rattle.hex.specs.Hex.{bytes, number, digits}
+use Rattle.hex.specs.Hex.{number, digits}
 use Rattle.lines.specs.Lines.{lf, lineAt}
 use Rattle.logline.specs.Labels.{isSet}
 use Rattle.log.specs.Promises.{joined, programLog}
@@ -13,11 +13,7 @@ use Rattle.log.specs.Cut.{cut}
 use Rattle.input.specs.declared.Reading.{Reading}
 use Rattle.input.specs.declared.Reading.the-variants.{FirstLine, Over}
 use Rattle.input.specs.declared.SetLine.the-variants.{Nothing}
-use Rattle.input.specs.Input.{refusal, isSetLine, inputLog, passing, fedInput, endedInput}
-
--- `refusal-line`: the line that refuses an unknown set
-abbrev pub RefusalLine : Type 0
-RefusalLine = refusal ≡ bytes "0F000000000000000000 unknown label set\n"
+use Rattle.input.specs.Input.{isSetLine, inputLog, passing, fedInput, endedInput}
 
 -- `set-line-read`, `set-line-only`: a first line chooses a set if and only if it is that set's number in two digits
 abbrev pub SetLineRead : Type 0

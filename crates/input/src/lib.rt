@@ -6,20 +6,17 @@ ghost use Prim.Native.Nat.{_≤_};
 ghost use lib.ListN.{length};
 ghost use Rattle.machine.specs.State.{resetState};
 ghost use Rattle.controller.specs.Controller.{stateOf};
-ghost use Rattle.logline.specs.LogLine.{lineRoom};
+ghost use Rattle.logline.specs.LogLine.{refusal, lineRoom};
 ghost use Rattle.logline.specs.Wrote.{Wrote};
 ghost use Rattle.log.specs.Results.{begunOf};
 ghost use Rattle.input.specs.declared.Reading.the-variants.{FirstLine};
 ghost use Rattle.input.specs.declared.SetLine.the-variants.{Nothing};
-ghost use Rattle.input.specs.Input.{refusal, refusalAfter, hasSet, heard};
+ghost use Rattle.input.specs.Input.{refusalAfter, hasSet, heard};
 ghost use Rattle.input.specs.Results.{PassedBy, FeedPromised, FinishPromised};
 use controller::Controller;
 use log::Logged;
 use log::Stream;
-use logline::ENGLISH;
 use logline::LINE_ROOM;
-use machine::Answer;
-use machine::codes;
 
 // What has come of the set line: nothing, a digit, both of them.
 pub enum SetLine {
@@ -152,14 +149,7 @@ fn put_refusal(out: &mut [u8]) -> usize
     requires { ⌜ lineRoom ≤ length (now out) ⌝ }
     ensures { λ r. ⌜ Wrote (now (out .entry)) 0 refusal r (now (out .exit)) ⌝ }
 {
-    let unknown = Answer {
-        code: codes::UNKNOWN_LABEL_SET,
-        address: 0,
-        value: 0,
-        enables: 0,
-        line: false,
-    };
-    logline::put_line(out, 0, unknown, ENGLISH)
+    logline::put_refusal(out)
 }
 
 // The same, where the piece has ended a reading that had not ended before.

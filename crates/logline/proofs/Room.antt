@@ -1,6 +1,6 @@
 -- The line that is written, by whether there is room for it.
 use Prim.Native.Nat.{ℕ, _+_, _≤_, _<_, zero-le}
-use mathlib.Core.Path.{_≡_}
+use mathlib.Core.Path.{_≡_, refl}
 use mathlib.Core.List.{List, []}
 use mathlib.Core.Bool.{Bool, true, false, cond}
 use native.Mathlib.Omega.{arith}
@@ -8,8 +8,10 @@ use borrow.Author.Tests.{le-leb, lt-leb}
 use lib.ListN.{length}
 use lib.Dec.{leb}
 use Rattle.machine.specs.declared.Answer.{Answer}
-use Rattle.logline.specs.LogLine.{logLine, lineRoom, lineIn}
-use Rattle.logline.specs.Promises.{LineRoom}
+use Rattle.hex.specs.Hex.{hexDigits, digitOf, digits}
+use Rattle.logline.specs.Labels.{english, labelSets, labelOf}
+use Rattle.logline.specs.LogLine.{numbers, logBody, logLine, refusal, lineRoom, lineIn}
+use Rattle.logline.specs.Promises.{LineRoom, RefusalLine}
 use Rattle.logline.proofs.Labels.{line-fits}
 
 module _ (set : ℕ) (out : List ℕ) (at : ℕ) (a : Answer) where
@@ -31,3 +33,7 @@ module _ (set : ℕ) (out : List ℕ) (at : ℕ) (a : Answer) where
 
 pub line-room : LineRoom
 line-room set out at a = (in-room set out at a, no-room set out at a)
+
+pub refusal-line : RefusalLine
+unfolding refusal logLine logBody numbers digits digitOf hexDigits labelOf labelSets english
+refusal-line = refl

@@ -1,12 +1,13 @@
 -- The log line of an answer.
 use Prim.Native.Nat.{ℕ, _+_}
 use mathlib.Core.List.{List, [], _++_}
-use mathlib.Core.Bool.{cond}
+use mathlib.Core.Bool.{false, cond}
 use lib.ListN.{length}
 use lib.Dec.{leb}
+use Rattle.machine.specs.Codes.{unknownLabelSet}
 use Rattle.machine.specs.declared.Answer.{Answer}
 use Rattle.hex.specs.Hex.{bytes, digits}
-use Rattle.logline.specs.Labels.{labelOf}
+use Rattle.logline.specs.Labels.{englishSet, labelOf}
 
 -- Frames and the log: 20 digits, two of the code, eight of the address, eight of the data, one of the enables, one that is 1 while the interrupt line is up
 unfoldable pub numbers : Answer → List ℕ
@@ -19,6 +20,14 @@ logBody set a = numbers a ++ bytes " " ++ labelOf set (a .code)
 -- and LF
 unfoldable pub logLine : ℕ → Answer → List ℕ
 logLine set a = logBody set a ++ bytes "\n"
+
+-- an unknown label set is answered by code 15 and nothing else (document 02, Ask 1)
+abbrev pub unknownSet : Answer
+unknownSet = record { code = unknownLabelSet; address = 0; value = 0; enables = 0; line = false }
+
+-- the one line that refuses it, with its English label
+unfoldable pub refusal : List ℕ
+refusal = logLine englishSet unknownSet
 
 -- the room that is asked for each line: no log line is longer (`line-fits`)
 abbrev pub lineRoom : ℕ

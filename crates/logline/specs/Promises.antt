@@ -6,9 +6,10 @@ use mathlib.Core.Bool.{Bool, true, _&&_}
 use lib.ListN.{length, take, getD}
 use lib.Dec.{leb, ltb}
 use Rattle.machine.specs.declared.Answer.{Answer}
+use Rattle.hex.specs.Hex.{bytes}
 use Rattle.logline.specs.Wrote.{Wrote}
 use Rattle.logline.specs.Labels.{labelSets, isSet, labelOf}
-use Rattle.logline.specs.LogLine.{logLine, lineIn}
+use Rattle.logline.specs.LogLine.{logLine, refusal, lineIn}
 
 -- `labels-short`: no label is above 18 bytes, in any set
 abbrev pub LabelsShort : Type 0
@@ -39,6 +40,10 @@ abbrev pub LineRoom : Type 0
 LineRoom =
     (set : ℕ) (out : List ℕ) (at : ℕ) (a : Answer)
     → (at + 40 ≤ length out → lineIn set out at a ≡ logLine set a) × (length out < at + 40 → lineIn set out at a ≡ [])
+
+-- `refusal-line`: the line that refuses an unknown set, byte for byte
+abbrev pub RefusalLine : Type 0
+RefusalLine = refusal ≡ bytes "0F000000000000000000 unknown label set\n"
 
 -- the numbers of an answer have no more digits than the log gives them
 pub record AnswerFits (a : Answer) : Type 0 where

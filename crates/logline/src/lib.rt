@@ -5,14 +5,14 @@ ghost use mathlib.Core.List.{[]};
 ghost use lib.ListN.{length, getD};
 ghost use Rattle.hex.specs.Hex.{digits};
 ghost use Rattle.logline.specs.Wrote.{Wrote};
-ghost use Rattle.logline.specs.Labels.{english, german, isSet, labelOf};
-ghost use Rattle.logline.specs.LogLine.{numbers, lineIn};
+ghost use Rattle.logline.specs.Labels.{english, german, englishSet, isSet, labelOf};
+ghost use Rattle.logline.specs.LogLine.{numbers, unknownSet, lineIn};
 use machine::Answer;
 
 // The most bytes that a log line has.
 pub const LINE_ROOM: usize = 40;
 
-// The number of the English label set, in which an unknown one is refused.
+// The number of the English label set.
 pub const ENGLISH: u32 = 0;
 
 // How many label sets there are.
@@ -167,4 +167,15 @@ pub fn put_line(out: &mut [u8], at: usize, a: Answer, set: u32) -> usize
     let end = put_label(out, p + 1, a.code, set);
     out[end] = b'\n';
     end + 1
+}
+
+// Writes the line that refuses an unknown label set, with its English label, at the output's start, and answers the place past
+// it. Where there is no room for 40 bytes it writes nothing.
+pub fn put_refusal(out: &mut [u8]) -> usize
+    ensures { λ r. ⌜ Wrote (now (out .entry)) 0 (lineIn englishSet (now (out .entry)) 0 unknownSet) r (now (out .exit)) ⌝ }
+{
+    if out.len() < LINE_ROOM {
+        return 0;
+    }
+    put(out, 0, b"0F000000000000000000 unknown label set\n")
 }

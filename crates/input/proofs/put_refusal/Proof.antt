@@ -1,7 +1,7 @@
 use denote.Ref.{now}
 use native.Mathlib.Omega.{arith}
 use Rattle.logline.proofs.Room.{in-room}
-use Rattle.input.specs.Input.{unknownSet, refusal}
+use Rattle.logline.specs.LogLine.{unknownSet, refusal}
 use borrow.Author.Needs.{needs}
 use Rattle.input.proofs.put_refusal.Statement.{statement}
 use Rattle.input.proofs.put_refusal.Tie as tie
@@ -10,7 +10,7 @@ returns : tie.Need-returns
 unfolding refusal
 returns c =
     let s = c .before .before .before .before .before in
-    rw (in-room 0 (now (s .args .out)) 0 unknownSet (omega (arith, s .pre))) at (c .before .before .put-line .ensures)
+    rw (in-room 0 (now (s .args .out)) 0 unknownSet (omega (arith, s .pre))) at (c .before .before .put-refusal .ensures)
 
 pub put-refusal-spec : {M : Type 1} → statement M
 put-refusal-spec = tie.close (tie.spec (λ c κs. search needs) (λ c. search needs) returns)
