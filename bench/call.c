@@ -32,22 +32,19 @@ int main(int argc, char **argv)
     FILE *file = argc > 2 ? fopen(argv[1], "rb") : NULL;
     size_t n = file == NULL ? 0 : fread(input, 1, sizeof input, file);
     long times = argc > 2 ? strtol(argv[2], NULL, 10) : 0;
-    size_t lines = 0;
+    size_t room = s5933_room(input, n);
     uint8_t *output;
     long long start, spent;
     int64_t log = 0;
 
     if (n == 0 || times <= 0)
         fail("usage: call FRAMES TIMES [LOG]");
-    for (size_t i = 0; i < n; i++)
-        lines += input[i] == '\n';
-    output = malloc(lines * S5933_LINE_ROOM);
+    output = malloc(room);
     if (output == NULL)
         fail("no memory");
     start = nanoseconds();
     for (long i = 0; i < times && log >= 0; i++)
-        log = s5933_log(input, n, output, lines * S5933_LINE_ROOM,
-                        S5933_ENGLISH);
+        log = s5933_log(input, n, output, room, S5933_ENGLISH);
     spent = nanoseconds() - start;
     if (log <= 0)
         fail("the call refused");

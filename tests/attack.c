@@ -257,6 +257,8 @@ static void call(const struct text *t, enum place in_place,
     memcpy(input, t->bytes, t->length);
     protect(in, PROT_READ);
     memcpy(out->start, fill, out->size);
+    if (s5933_room(input, t->length) != 40 * t->lines)
+        fail("the header counts another room");
     returned = s5933_log(input, t->length, output, output_length, set);
     calls++;
     if (returned != wanted(t, output_length, set)) {

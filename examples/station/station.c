@@ -17,15 +17,8 @@
 #include <stdlib.h>
 #include <string.h>
 
-/* A log line: code, address, data, enables, interrupt line, space, label. */
-enum {
-    CODE_AT = 0, CODE_DIGITS = 2,
-    ADDRESS_AT = 2, ADDRESS_DIGITS = 8,
-    SPACE_AT = 20, LABEL_AT = 21
-};
-
-/* Every number that two digits can say. */
-enum { CODES = 256, DONE = 0 };
+/* Every number that the digits of a code can say. */
+enum { CODES = 1 << 4 * S5933_CODE_DIGITS };
 
 struct moment {
     size_t line;
@@ -35,7 +28,7 @@ struct moment {
 struct fault {
     size_t times;
     struct moment first, last;
-    const char *label;          /* for showing; not ended by a NUL */
+    const uint8_t *label;       /* for showing; not ended by a NUL */
     int label_length;
 };
 
@@ -84,49 +77,25 @@ static uint8_t *read_file(const char *name, size_t *length)
     return NULL;
 }
 
-/* The lines by the rule of the log: a last one without LF counts too. */
-static size_t count_lines(const uint8_t *bytes, size_t length)
-{
-    size_t lines = 0;
-
-    for (size_t i = 0; i < length; i++)
-        if (bytes[i] == '\n' || i == length - 1)
-            lines++;
-    return lines;
-}
-
-/* Reads upper-case hexadecimal digits; 0 if one of them is none. */
-static int read_digits(const char *text, int digits, uint32_t *number)
-{
-    static const char all[] = "0123456789ABCDEF";
-
-    *number = 0;
-    for (int i = 0; i < digits; i++) {
-        const char *at = memchr(all, text[i], 16);
-
-        if (at == NULL)
-            return 0;
-        *number = *number << 4 | (uint32_t)(at - all);
-    }
-    return 1;
-}
-
 /* Notes one log line of n bytes, without its LF; 0 if it isn't one. */
-static int note_line(struct history *h, const char *line, size_t n)
+static int note_line(struct history *h, const uint8_t *line, size_t n)
 {
     struct moment now = { ++h->lines, 0 };
     struct fault *fault;
-    uint32_t code;
+    int64_t code, address;
 
-    if (n < LABEL_AT || n >= S5933_LINE_ROOM || line[SPACE_AT] != ' '
-        || !read_digits(line + CODE_AT, CODE_DIGITS, &code)
-        || !read_digits(line + ADDRESS_AT, ADDRESS_DIGITS, &now.address))
+    if (n < S5933_LABEL_AT || n >= S5933_LINE_ROOM)
         return 0;
+    code = s5933_number(line, S5933_CODE_AT, S5933_CODE_DIGITS);
+    address = s5933_number(line, S5933_ADDRESS_AT, S5933_ADDRESS_DIGITS);
+    if (code < 0 || address < 0 || line[S5933_SPACE_AT] != ' ')
+        return 0;
+    now.address = (uint32_t)address;
     fault = &h->of[code];
     if (fault->times == 0) {
         fault->first = now;
-        fault->label = line + LABEL_AT;
-        fault->label_length = (int)(n - LABEL_AT);
+        fault->label = line + S5933_LABEL_AT;
+        fault->label_length = (int)(n - S5933_LABEL_AT);
     }
     fault->last = now;
     fault->times++;
@@ -134,10 +103,10 @@ static int note_line(struct history *h, const char *line, size_t n)
 }
 
 /* Notes the whole log; 0 if it isn't one. */
-static int note_log(struct history *h, const char *log, size_t length)
+static int note_log(struct history *h, const uint8_t *log, size_t length)
 {
     for (size_t at = 0; at < length; ) {
-        const char *end = memchr(log + at, '\n', length - at);
+        const uint8_t *end = memchr(log + at, '\n', length - at);
 
         if (end == NULL || !note_line(h, log + at, (size_t)(end - log) - at))
             return 0;
@@ -149,16 +118,16 @@ static int note_log(struct history *h, const char *log, size_t length)
 static void show(const struct history *h)
 {
     printf("lines %zu, done %zu, faults %zu\n", h->lines,
-           h->of[DONE].times, h->lines - h->of[DONE].times);
+           h->of[S5933_DONE].times, h->lines - h->of[S5933_DONE].times);
     puts("code  times  first line   address  last line   address  label");
-    for (size_t code = DONE + 1; code < CODES; code++) {
+    for (size_t code = S5933_DONE + 1; code < CODES; code++) {
         const struct fault *f = &h->of[code];
 
         if (f->times > 0)
             printf("%4zu %6zu %11zu  %08" PRIX32 " %10zu  %08" PRIX32
                    "  %.*s\n", code, f->times, f->first.line,
                    f->first.address, f->last.line, f->last.address,
-                   f->label_length, f->label);
+                   f->label_length, (const char *)f->label);
     }
 }
 
@@ -176,7 +145,7 @@ static int run(const char *name, const uint8_t *frames, size_t length,
                uint32_t set)
 {
     static struct history history;
-    size_t room = count_lines(frames, length) * S5933_LINE_ROOM;
+    size_t room = s5933_room(frames, length);
     uint8_t *log = malloc(room + 1);    /* never none: no null pointer */
     int64_t written;
     int good = 0;
@@ -193,7 +162,7 @@ static int run(const char *name, const uint8_t *frames, size_t length,
     else if (written == S5933_NO_ROOM)
         complain(name, "too little room for the log");
     else if (written < 0 || (uint64_t)written > room
-             || !note_log(&history, (const char *)log, (size_t)written))
+             || !note_log(&history, log, (size_t)written))
         complain(name, "the log is not as it should be");
     else
         good = 1;
