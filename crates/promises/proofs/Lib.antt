@@ -16,4 +16,5 @@ pub mod Events
 pub mod Registers
 pub mod Aborts
 pub mod Steps
+pub mod Answers
 pub mod Unique

@@ -98,7 +98,7 @@ numbered st start memory s = at-most 13 1 (tests st start (length memory) (acces
 
 -- ---- refusals
 
-line-cond : (b l : Bool) → (not b && l) ≡ cond b false l
+pub line-cond : (b l : Bool) → (not b && l) ≡ cond b false l
 line-cond true l = refl
 line-cond false l = refl
 
