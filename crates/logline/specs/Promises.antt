@@ -1,9 +1,9 @@
 -- What is promised of labels and log lines.
-use Prim.Native.Nat.{ℕ, _+_, _≤_, _<_, _^_}
+use Prim.Native.Nat.{ℕ, _+_, _≤_, _<_}
 use mathlib.Core.Path.{_≡_}
 use mathlib.Core.List.{List, []}
 use mathlib.Core.Bool.{Bool, true, _&&_}
-use lib.ListN.{length, take, getD}
+use lib.ListN.{length, getD}
 use lib.Dec.{leb, ltb}
 use Rattle.machine.specs.declared.Answer.{Answer}
 use Rattle.logline.specs.Wrote.{Wrote}
@@ -39,17 +39,6 @@ abbrev pub LineRoom : Type 0
 LineRoom =
     (set : ℕ) (out : List ℕ) (at : ℕ) (a : Answer)
     → (at + 40 ≤ length out → lineIn set out at a ≡ logLine set a) × (length out < at + 40 → lineIn set out at a ≡ [])
-
--- the numbers of an answer have no more digits than the log gives them
-pub record AnswerFits (a : Answer) : Type 0 where
-  pub code : a .code < 16 ^ 2
-  pub address : a .address < 16 ^ 8
-  pub value : a .value < 16 ^ 8
-  pub enables : a .enables < 16 ^ 1
-
--- `numbers-are-key`: the 20 digits before the label are the whole answer, whatever the sets; nothing is told by the label alone
-abbrev pub NumbersAreKey : Type 0
-NumbersAreKey = (set other : ℕ) (a b : Answer) → AnswerFits a → AnswerFits b → take 20 (logLine set a) ≡ take 20 (logLine other b) → a ≡ b
 
 -- `wrote-unique`: two results that meet one contract of writing are the same, and so are the outputs
 abbrev pub WroteUnique : Type 0

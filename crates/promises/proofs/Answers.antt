@@ -8,11 +8,11 @@ use native.Mathlib.Omega.{arith}
 use lib.Dec.{eqb, leb, ltb}
 use lib.Bits.{bitOr, and-zero-l, or-zero-l}
 use lib.ListN.{length, getD}
-use borrow.Author.Tests.{eqb-true, ne-eqb, lt-ltb, le-ltb, ltb-true, ltb-false, lt-leb, le-leb, leb-true, leb-false}
+use borrow.Author.Tests.{ne-eqb, lt-ltb, le-ltb, ltb-true, ltb-false, lt-leb, le-leb, leb-true, leb-false}
 use Rattle.machine.specs.Words.{bit, ones, mask, cleared, shown, merged}
 use Rattle.machine.specs.Sides.{pci, addon}
 use Rattle.machine.specs.State.{State}
-use Rattle.machine.specs.Access.{kindOf, accessOf, isUnknown}
+use Rattle.machine.specs.Access.{kindOf, accessOf}
 use Rattle.machine.specs.Offsets.{inTable, isReadOnly}
 use Rattle.machine.specs.Fifos.{front}
 use Rattle.machine.specs.Window.{placeOf}
@@ -21,7 +21,7 @@ use Rattle.machine.specs.Intcsr.{lineOf}
 use Rattle.machine.specs.Code.{codeOf, tests}
 use Rattle.machine.specs.Step.{register, readValue, Reply, showing, doneReply, replyOf, answered, respond, stepOf}
 use Rattle.promises.specs.Account.{byteOf}
-use Rattle.promises.specs.Readings.{isOneOf, pciOffsets, addonOffsets, pciReadOnly, addonReadOnly, OffsetTable, OffsetTables, RegisterTables, ReadyRule, PlaceRule, isLineHigh, LineRule, byKind, byteIf, readThen, AnswerRule}
+use Rattle.promises.specs.Readings.{isOneOf, pciOffsets, addonOffsets, pciReadOnly, addonReadOnly, OffsetTable, OffsetTables, RegisterTables, ReadyRule, PlaceRule, isLineHigh, LineRule, byteIf, addresses, values, lowestEnables, AnswerRule}
 use Rattle.machine.specs.declared.Step.{Step}
 use Rattle.promises.proofs.Tests.{and-left, and-right, none-applies}
 use Rattle.promises.proofs.Numbers.{named}
@@ -160,7 +160,7 @@ four-bytes w h =
     omega (arith, low, next, last, top)
 
 -- the enabled bytes of a word, joined
-shown-bytes : (x e : ℕ) → shown x e ≡ byteIf x e 0 + byteIf x e 1 + byteIf x e 2 + byteIf x e 3
+pub shown-bytes : (x e : ℕ) → shown x e ≡ byteIf x e 0 + byteIf x e 1 + byteIf x e 2 + byteIf x e 3
 shown-bytes x e =
     four-bytes (shown x e) (shown-lt x e)
     ∙ (λ i. byte-shown 0 (omega arith) x e i * 2 ^ 0 + byte-shown 1 (omega arith) x e i * 2 ^ 8 + byte-shown 2 (omega arith) x e i * 2 ^ 16 + byte-shown 3 (omega arith) x e i * 2 ^ 24)
@@ -190,16 +190,7 @@ shown-low x count = by-bits _ _ (λ k. at k (ltb k 32) refl)
 module _ (st : State) (start : ℕ) (memory : List ℕ) (s : Step) where
   -- what a done step of each kind answers
   by-number : (k : ℕ) → Reply
-  by-number k =
-      record {
-        address = getD (0 ∷ 0 ∷ 0 ∷ 0 ∷ st .fromAddon .address ∷ st .fromPci .address ∷ 0 ∷ []) k 0;
-        value =
-            getD
-            (readThen st s (st .fromAddon .words) ∷ 0 ∷ readThen st s (st .fromPci .words) ∷ 0 ∷ front (st .fromAddon .words)
-            ∷ (getD memory (placeOf start (st .fromPci .address)) 0 % 2 ^ (8 * min 4 (st .fromPci .count)))
-            ∷ 0 ∷ []) k 0;
-        enables = getD (0 ∷ 0 ∷ 0 ∷ 0 ∷ (2 ^ min 4 (st .fromAddon .count) - 1) ∷ (2 ^ min 4 (st .fromPci .count) - 1) ∷ 0 ∷ []) k 0;
-      }
+  by-number k = record { address = getD (addresses st) k 0; value = getD (values st start memory s) k 0; enables = getD (lowestEnables st) k 0 }
 
   shown-is : shown (register st (s .offset)) (s .enables) ≡ byteIf (register st (s .offset)) (s .enables) 0 + byteIf (register st (s .offset)) (s .enables) 1 + byteIf (register st (s .offset)) (s .enables) 2 + byteIf (register st (s .offset)) (s .enables) 3
   shown-is = shown-bytes (register st (s .offset)) (s .enables)

@@ -17,4 +17,5 @@ pub mod Registers
 pub mod Aborts
 pub mod Steps
 pub mod Answers
+pub mod Fits
 pub mod Unique

@@ -247,10 +247,6 @@ LineRule =
     (st : State) (start : ℕ) (memory : List ℕ) (s : Step)
     → (let o = stepOf st start memory s in o .answer .line ≡ cond (eqb (o .answer .code) 1) false (isLineHigh (o .state .intcsr)))
 
--- the number that a list has for the kind: 0 PCI read, 1 PCI write, 2 Add-On read, 3 Add-On write, 4 write cycle, 5 read cycle, 6 chip reset
-abbrev pub byKind : Step → List ℕ → ℕ
-byKind s numbers = getD numbers (s .kind) 0
-
 -- byte i of a word in its place, if enable bit i is set
 abbrev pub byteIf : ℕ → ℕ → ℕ → ℕ
 byteIf word enables i = cond (bit enables i) (byteOf i word * 2 ^ (8 * i)) 0
@@ -261,18 +257,28 @@ readThen st s words =
     let b = byteIf (register st (s .offset)) (s .enables) in
     cond (eqb (s .offset) 0x20) (front words) (b 0 + b 1 + b 2 + b 3)
 
--- `answer-rule`: "A step and its answer", "FIFOs and memory cycles", what a done step answers besides the code. PCI reads the FIFO that the Add-On feeds, and
--- the Add-On the other. A cycle answers the address before the step, the word taken from the front, or the memory word's lowest n bytes, and the lowest n enables
+-- What a done step answers, for each kind: 0 PCI read, 1 PCI write, 2 Add-On read, 3 Add-On write, 4 write cycle, 5 read cycle, 6 chip reset.
+-- PCI reads the FIFO that the Add-On feeds, and the Add-On the other. A cycle answers the address before the step,
+abbrev pub addresses : State → List ℕ
+addresses st = 0 ∷ 0 ∷ 0 ∷ 0 ∷ st .fromAddon .address ∷ st .fromPci .address ∷ 0 ∷ []
+
+-- the word taken from the front, or the memory word's lowest n bytes,
+abbrev pub values : State → ℕ → List ℕ → Step → List ℕ
+values st start memory s =
+    readThen st s (st .fromAddon .words) ∷ 0 ∷ readThen st s (st .fromPci .words) ∷ 0 ∷ front (st .fromAddon .words)
+    ∷ (getD memory (placeOf start (st .fromPci .address)) 0 % 2 ^ (8 * min 4 (st .fromPci .count)))
+    ∷ 0 ∷ []
+
+-- and the lowest n enables
+abbrev pub lowestEnables : State → List ℕ
+lowestEnables st = 0 ∷ 0 ∷ 0 ∷ 0 ∷ (2 ^ min 4 (st .fromAddon .count) - 1) ∷ (2 ^ min 4 (st .fromPci .count) - 1) ∷ 0 ∷ []
+
+-- `answer-rule`: "A step and its answer", "FIFOs and memory cycles", what a done step answers besides the code
 pub record AnswerThen (st : State) (start : ℕ) (memory : List ℕ) (s : Step) (after : State) (a : Answer) : Type 0 where
   pub kind : s .kind ≤ 6
-  pub address : a .address ≡ byKind s (0 ∷ 0 ∷ 0 ∷ 0 ∷ st .fromAddon .address ∷ st .fromPci .address ∷ 0 ∷ [])
-  pub value :
-      a .value
-      ≡ byKind s
-      (readThen st s (st .fromAddon .words) ∷ 0 ∷ readThen st s (st .fromPci .words) ∷ 0 ∷ front (st .fromAddon .words)
-      ∷ (getD memory (placeOf start (st .fromPci .address)) 0 % 2 ^ (8 * min 4 (st .fromPci .count)))
-      ∷ 0 ∷ [])
-  pub enables : a .enables ≡ byKind s (0 ∷ 0 ∷ 0 ∷ 0 ∷ (2 ^ min 4 (st .fromAddon .count) - 1) ∷ (2 ^ min 4 (st .fromPci .count) - 1) ∷ 0 ∷ [])
+  pub address : a .address ≡ getD (addresses st) (s .kind) 0
+  pub value : a .value ≡ getD (values st start memory s) (s .kind) 0
+  pub enables : a .enables ≡ getD (lowestEnables st) (s .kind) 0
   pub line : a .line ≡ isLineHigh (after .intcsr)
 
 abbrev pub AnswerRule : Type 0
