@@ -10,7 +10,7 @@ use lib.ListN.{length, take, length-append}
 use lib.Seq.{take-append-seam, drop-append-seam}
 use Rattle.machine.specs.declared.Answer.{Answer}
 use Rattle.hex.specs.Hex.{bytes, digits, number}
-use Rattle.hex.proofs.Below.{below, below-at}
+use Rattle.laws.proofs.Below.{below, below-at}
 use Rattle.hex.proofs.Numbers.{length-digits, number-digits}
 use Rattle.logline.specs.Labels.{english, german, labelSets, isSet, labelOf}
 use Rattle.logline.specs.LogLine.{numbers, logBody, logLine}

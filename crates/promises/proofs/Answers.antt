@@ -23,9 +23,9 @@ use Rattle.machine.specs.Step.{register, readValue, Reply, showing, doneReply, 
 use Rattle.promises.specs.Account.{byteOf}
 use Rattle.promises.specs.Readings.{isOneOf, pciOffsets, addonOffsets, pciReadOnly, addonReadOnly, OffsetTable, OffsetTables, RegisterTables, ReadyRule, PlaceRule, isLineHigh, LineRule, byteIf, addresses, values, lowestEnables, AnswerRule}
 use Rattle.machine.specs.declared.Step.{Step}
-use Rattle.promises.proofs.Tests.{and-left, and-right, none-applies}
-use Rattle.promises.proofs.Numbers.{named}
-use Rattle.promises.proofs.Bits.{bit-low, bit-beyond, by-bits}
+use Rattle.laws.proofs.Tests.{and-left, and-right, none-applies}
+use Rattle.laws.proofs.KindNumbers.{named}
+use Rattle.laws.proofs.Bits.{bit-low, bit-beyond, by-bits}
 use Rattle.promises.proofs.Bytes.{listed, agree, bit-shown, shown-lt, byte-merged}
 use Rattle.promises.proofs.Readings.{low-enables}
 use Rattle.promises.proofs.Refused.{line-cond}
@@ -57,10 +57,10 @@ module _ (offset : ℕ) where
   unfolding allBelow
   table-at =
       record {
-        toPci = by-list (inTable pci) pciOffsets refl refl (λ h. rw (le-ltb offset 0x40 h));
-        toAddon = by-list (inTable addon) addonOffsets refl refl (λ h. simp (le-ltb offset 0x20 (omega arith), ne-eqb offset 0x20 (λ q. omega arith), ne-eqb offset 0x34 (λ q. omega arith)));
-        readByPci = by-list (isReadOnly pci) pciReadOnly refl refl (λ h. simp (le-ltb offset 0x20 (omega arith), ne-eqb offset 0x34 (λ q. omega arith)));
-        readByAddon = by-list (isReadOnly addon) addonReadOnly refl refl (λ h. simp (le-ltb offset 0x20 (omega arith), ne-eqb offset 0x34 (λ q. omega arith)));
+        inPci = by-list (inTable pci) pciOffsets refl refl (λ h. rw (le-ltb offset 0x40 h));
+        inAddon = by-list (inTable addon) addonOffsets refl refl (λ h. simp (le-ltb offset 0x20 (omega arith), ne-eqb offset 0x20 (λ q. omega arith), ne-eqb offset 0x34 (λ q. omega arith)));
+        readOnlyToPci = by-list (isReadOnly pci) pciReadOnly refl refl (λ h. simp (le-ltb offset 0x20 (omega arith), ne-eqb offset 0x34 (λ q. omega arith)));
+        readOnlyToAddon = by-list (isReadOnly addon) addonReadOnly refl refl (λ h. simp (le-ltb offset 0x20 (omega arith), ne-eqb offset 0x34 (λ q. omega arith)));
       }
 
 pub offset-table : OffsetTables

@@ -27,9 +27,9 @@ use Rattle.promises.specs.Readings.{byteIf, readThen, addresses, values,
 use Rattle.promises.specs.Theorems.{cycleAddress}
 use Rattle.promises.specs.Fits.{AllBelow, WordsFit, LaneFits, StateFits, AnswerFits, ResetFits, FitKept, RunsFit, toStep, toNoFrame, GivenFits}
 use Rattle.machine.specs.declared.Step.{Step}
-use Rattle.promises.proofs.Tests.{and-right}
+use Rattle.laws.proofs.Tests.{and-right}
 use Rattle.promises.proofs.Bytes.{shown-lt}
-use Rattle.promises.proofs.Marks.{marks-lt}
+use Rattle.laws.proofs.Marks.{marks-lt}
 use Rattle.promises.proofs.Refused.{numbered, refused, aborted}
 use Rattle.promises.proofs.Answers.{shown-bytes, answer-rule}
 

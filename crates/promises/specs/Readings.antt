@@ -86,13 +86,14 @@ McsrReadBits = (st : State) → isOutOfForm st ≡ false → McsrStatus st
 abbrev pub isOneOf : List ℕ → ℕ → Bool
 isOneOf offsets offset = anyOf (map (eqb offset) offsets)
 
+-- the offsets of PCI's table, and of the Add-On's
 abbrev pub pciOffsets : List ℕ
 pciOffsets = 0x00 ∷ 0x04 ∷ 0x08 ∷ 0x0C ∷ 0x10 ∷ 0x14 ∷ 0x18 ∷ 0x1C ∷ 0x20 ∷ 0x24 ∷ 0x28 ∷ 0x2C ∷ 0x30 ∷ 0x34 ∷ 0x38 ∷ 0x3C ∷ []
 
 abbrev pub addonOffsets : List ℕ
 addonOffsets = 0x00 ∷ 0x04 ∷ 0x08 ∷ 0x0C ∷ 0x10 ∷ 0x14 ∷ 0x18 ∷ 0x1C ∷ 0x20 ∷ 0x34 ∷ []
 
--- read-only to PCI, and to the Add-On
+-- the read-only ones to PCI, and to the Add-On
 abbrev pub pciReadOnly : List ℕ
 pciReadOnly = 0x10 ∷ 0x14 ∷ 0x18 ∷ 0x1C ∷ 0x34 ∷ []
 
@@ -101,15 +102,15 @@ addonReadOnly = 0x00 ∷ 0x04 ∷ 0x08 ∷ 0x0C ∷ 0x34 ∷ []
 
 -- `offset-table`: "Register offsets", of each side those in its table and the read-only ones
 pub record OffsetTable (offset : ℕ) : Type 0 where
-  pub toPci : inTable pci offset ≡ isOneOf pciOffsets offset
-  pub toAddon : inTable addon offset ≡ isOneOf addonOffsets offset
-  pub readByPci : isReadOnly pci offset ≡ isOneOf pciReadOnly offset
-  pub readByAddon : isReadOnly addon offset ≡ isOneOf addonReadOnly offset
+  pub inPci : inTable pci offset ≡ isOneOf pciOffsets offset
+  pub inAddon : inTable addon offset ≡ isOneOf addonOffsets offset
+  pub readOnlyToPci : isReadOnly pci offset ≡ isOneOf pciReadOnly offset
+  pub readOnlyToAddon : isReadOnly addon offset ≡ isOneOf addonReadOnly offset
 
 abbrev pub OffsetTables : Type 0
 OffsetTables = (offset : ℕ) → OffsetTable offset
 
--- `register-table`: "Register offsets", what is read at each of them but the FIFO port: mailboxes 1 to 8 (the outgoing ones first), 24 write address, ..
+-- `register-table`: "Register offsets", what is read at each of them but the FIFO port: the eight mailbox words, outgoing ones first, then the registers by name
 pub record RegisterTable (st : State) : Type 0 where
   pub mail : (i : ℕ) → i < 8 → register st (4 * i) ≡ getD (st .mail) i 0
   pub writeAddress : register st 0x24 ≡ st .fromAddon .address
