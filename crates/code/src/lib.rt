@@ -1,7 +1,6 @@
 // The code of a step: the lowest that applies.
 ghost use mathlib.Core.Path.{_≡_};
 ghost use Prim.Native.Nat.{_<_};
-ghost use mathlib.Core.Bool.{cond};
 ghost use Rattle.machine.specs.Sides.{pci, addon};
 ghost use Rattle.machine.specs.Access.{accessOf};
 ghost use Rattle.machine.specs.Offsets.{inTable, isReadOnly};
@@ -12,7 +11,6 @@ ghost use Rattle.controller.specs.Controller.{laneOf, stateOf};
 ghost use Rattle.code.specs.Parts.{accessCode, cycleCode};
 use controller::Controller;
 use controller::Lane;
-use fifo::WordFill;
 use machine::ALL_ENABLES;
 use machine::Step;
 use machine::WORD_BYTES;
@@ -20,16 +18,14 @@ use machine::codes;
 use machine::kinds;
 use machine::offsets;
 
-// The largest count in form, and the most words that a window may have.
-const COUNT_MAX: u32 = 0x03FF_FFFF;
-
+// The most words that a window may have.
 const WINDOW_MAX: usize = 16384;
 
 // Code 1, of a lane.
 fn is_lane_out_of_form(l: Lane) -> bool
     ensures { λ r. ⌜ r ≡ anyOf (laneFaults (laneOf l)) ⌝ }
 {
-    (fifo::DEPTH < fifo::fill(l.fifo).0) | (l.address % WORD_BYTES != 0) | (COUNT_MAX < l.count.0)
+    fifo::is_out_of_form(l.fifo) | (l.address % WORD_BYTES != 0) | count::is_out_of_form(l.count)
 }
 
 // Code 1, state out of form.
@@ -102,31 +98,20 @@ fn is_full_or_empty(c: Controller, s: Step) -> bool
             | (s.kind == kinds::PCI_READ) & port & fifo::is_empty(from_addon))
 }
 
-// The words, or the room for words, that a cycle needs.
-fn needed(four: bool) -> WordFill
-    ensures { λ r. ⌜ r .0 ≡ cond four 4 1 ⌝ }
-{
-    if four {
-        WordFill(fifo::FOUR_WORDS)
-    } else {
-        WordFill(1)
-    }
-}
-
 // Whether there is room for what a read cycle lets in.
 fn is_read_ready(c: Controller) -> bool
     ensures { λ r. ⌜ r ≡ isReady pci (stateOf c) ⌝ }
 {
-    let need = needed(word::bit(c.mcsr, mcsr::READ_FOUR));
-    need.0 <= fifo::room(c.from_pci.fifo).0
+    let four = word::bit(c.mcsr, mcsr::READ_FOUR);
+    fifo::has_room(c.from_pci.fifo, four)
 }
 
 // Whether there are words for a write cycle to take.
 fn is_write_ready(c: Controller) -> bool
     ensures { λ r. ⌜ r ≡ isReady addon (stateOf c) ⌝ }
 {
-    let need = needed(word::bit(c.mcsr, mcsr::WRITE_FOUR));
-    need.0 <= fifo::fill(c.from_addon.fifo).0
+    let four = word::bit(c.mcsr, mcsr::WRITE_FOUR);
+    fifo::has_words(c.from_addon.fifo, four)
 }
 
 // Whether an address belongs to a memory of so many words.
@@ -169,7 +154,7 @@ fn write_cycle_code(c: Controller, start: u32, words: usize) -> u32
     if !word::bit(c.mcsr, mcsr::WRITE_ENABLE) {
         return codes::TRANSFER_OFF;
     }
-    if c.from_addon.count.0 == 0 {
+    if count::is_zero(c.from_addon.count) {
         return codes::COUNT_IS_ZERO;
     }
     if intcsr::is_abort_in(c.intcsr) {
@@ -191,7 +176,7 @@ fn read_cycle_code(c: Controller, start: u32, words: usize) -> u32
     if !word::bit(c.mcsr, mcsr::READ_ENABLE) {
         return codes::TRANSFER_OFF;
     }
-    if c.from_pci.count.0 == 0 {
+    if count::is_zero(c.from_pci.count) {
         return codes::COUNT_IS_ZERO;
     }
     if intcsr::is_abort_in(c.intcsr) {

@@ -1,7 +1,7 @@
 // The count registers, and the bytes that a cycle moves.
 ghost use mathlib.Core.Path.{_≡_};
 ghost use mathlib.Core.Bool.{cond, _&&_};
-ghost use lib.Dec.{eqb};
+ghost use lib.Dec.{eqb, ltb};
 ghost use Rattle.machine.specs.Sides.{pci, addon};
 ghost use Rattle.machine.specs.Access.{accessOf};
 ghost use Rattle.machine.specs.Words.{written};
@@ -13,8 +13,28 @@ use machine::WORD_BYTES;
 use machine::kinds;
 use machine::offsets;
 
-// The bits that a count keeps: 25 to 0.
+// The bits that a count keeps, 25 to 0, and so the largest count in form.
 const KEPT: u32 = 0x03FF_FFFF;
+
+// The number that its register shows.
+pub fn shown(count: ByteCount) -> u32
+    ensures { λ r. ⌜ r ≡ count .0 ⌝ }
+{
+    count.0
+}
+
+pub fn is_zero(count: ByteCount) -> bool
+    ensures { λ r. ⌜ r ≡ eqb (count .0) 0 ⌝ }
+{
+    count.0 == 0
+}
+
+// A count above 03FFFFFF.
+pub fn is_out_of_form(count: ByteCount) -> bool
+    ensures { λ r. ⌜ r ≡ ltb 0x03FF_FFFF (count .0) ⌝ }
+{
+    KEPT < count.0
+}
 
 // The bytes that a cycle moves: four, or the count where it is less.
 fn moved(count: ByteCount) -> ByteCount

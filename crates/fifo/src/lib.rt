@@ -2,18 +2,19 @@
 ghost use mathlib.Core.Path.{_≡_};
 ghost use mathlib.Core.Bool.{cond};
 ghost use mathlib.Core.List.{[], _∷_, _++_};
+ghost use lib.Dec.{leb, ltb};
 ghost use lib.ListN.{length, drop};
-ghost use Rattle.machine.specs.Sides.{pci};
-ghost use Rattle.machine.specs.Fifos.{isEmpty, isFull, front, amount};
+ghost use Rattle.machine.specs.Sides.{pci, addon};
+ghost use Rattle.machine.specs.Fifos.{depth, isEmpty, isFull, front, amount};
 ghost use Rattle.fifo.specs.Held.{held};
 
 // A number of 32-bit words in a FIFO.
 pub struct WordFill(pub u32);
 
-pub const DEPTH: u32 = 8;
+const DEPTH: u32 = 8;
 
 // The words, or the room for words, that MCSR 9 and 13 ask for and that its status tells of.
-pub const FOUR_WORDS: u32 = 4;
+const FOUR_WORDS: u32 = 4;
 
 pub struct Fifo {
     pub words: [u32; 8],
@@ -40,7 +41,7 @@ pub fn fill(f: Fifo) -> WordFill
 }
 
 // For how many more there is room.
-pub fn room(f: Fifo) -> WordFill
+fn room(f: Fifo) -> WordFill
     ensures { λ r. ⌜ r .0 ≡ amount pci (held f) ⌝ }
 {
     let n = fill(f).0;
@@ -61,6 +62,40 @@ pub fn is_full(f: Fifo) -> bool
     ensures { λ r. ⌜ r ≡ isFull (held f) ⌝ }
 {
     DEPTH <= fill(f).0
+}
+
+// A fill above eight.
+pub fn is_out_of_form(f: Fifo) -> bool
+    ensures { λ r. ⌜ r ≡ ltb depth (length (held f)) ⌝ }
+{
+    DEPTH < fill(f).0
+}
+
+// One word, or four.
+fn needed(four: bool) -> WordFill
+    ensures { λ r. ⌜ r .0 ≡ cond four 4 1 ⌝ }
+{
+    if four {
+        WordFill(FOUR_WORDS)
+    } else {
+        WordFill(1)
+    }
+}
+
+// Whether it holds a word, or four.
+pub fn has_words(f: Fifo, four: bool) -> bool
+    ensures { λ r. ⌜ r ≡ leb (cond four 4 1) (amount addon (held f)) ⌝ }
+{
+    let need = needed(four);
+    need.0 <= fill(f).0
+}
+
+// Whether there is room for a word, or for four.
+pub fn has_room(f: Fifo, four: bool) -> bool
+    ensures { λ r. ⌜ r ≡ leb (cond four 4 1) (amount pci (held f)) ⌝ }
+{
+    let need = needed(four);
+    need.0 <= room(f).0
 }
 
 // The front word, or zero.

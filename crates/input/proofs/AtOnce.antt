@@ -10,7 +10,7 @@ use Rattle.hex.specs.Hex.{hexDigits, placeIn, digitNumber, digitOf, allDigits, 
 use Rattle.logline.specs.Labels.{labelSets, isSet}
 use Rattle.logline.proofs.Labels.{every}
 use Rattle.logline.proofs.Bytes.{every-digits}
-use Rattle.hex.proofs.Below.{both}
+use Rattle.laws.proofs.Below.{both}
 use Rattle.log.specs.Promises.{programLog}
 use Rattle.log.specs.Cut.{cut}
 use Rattle.log.proofs.Bodies.{isOther, not-lf}

@@ -13,7 +13,7 @@ use borrow.Author.Tests.{eqb-true, ltb-true, lt-ltb, le-ltb, ne-eqb}
 use lib.ListN.{length, take, drop}
 use lib.Dec.{eqb, ltb}
 use Rattle.hex.specs.Hex.{digitNumber, allDigits, numberFrom, number, digits}
-use Rattle.hex.proofs.Below.{both}
+use Rattle.laws.proofs.Below.{both}
 use Rattle.hex.proofs.Numbers.{length-digits, digits-are, number-digits, digits-number}
 use Rattle.lines.specs.Lines.{untilLf, lineEnd, lineAt, pastLine}
 use Rattle.lines.proofs.Positions.{until-lf, until-more, past-more, past-last}

@@ -10,7 +10,7 @@ use borrow.Author.Tests.{eq-eqb}
 use lib.Dec.{eqb}
 use Rattle.machine.specs.declared.Answer.{Answer}
 use Rattle.hex.specs.Hex.{bytes, hexDigits, digitOf}
-use Rattle.hex.proofs.Below.{both}
+use Rattle.laws.proofs.Below.{both}
 use Rattle.lines.specs.Lines.{linesFrom}
 use Rattle.lines.proofs.Lines.{lines-lf, lines-other, lines-stop}
 use Rattle.logline.specs.Labels.{english, german, labelSets, labelOf}

@@ -11,7 +11,7 @@ use Rattle.machine.specs.State.{State, resetState}
 use Rattle.machine.specs.Window.{zeroWords}
 use Rattle.machine.specs.declared.Answer.{Answer}
 use Rattle.hex.specs.Hex.{bytes, hexDigits, digitOf}
-use Rattle.hex.proofs.Below.{both}
+use Rattle.laws.proofs.Below.{both}
 use Rattle.lines.specs.Lines.{lines}
 use Rattle.logline.specs.Labels.{labelOf}
 use Rattle.logline.specs.LogLine.{numbers, logBody, logLine}

@@ -19,7 +19,7 @@ use Rattle.machine.specs.Step.{Outcome}
 use Rattle.machine.specs.declared.Step.{Step}
 use Rattle.machine.specs.declared.Answer.{Answer}
 use Rattle.hex.specs.Hex.{hexDigits, placeIn, digitNumber, allDigits}
-use Rattle.hex.proofs.Below.{both}
+use Rattle.laws.proofs.Below.{both}
 use Rattle.lines.specs.Lines.{untilLf, lineAt, lineEnd}
 use Rattle.lines.proofs.Positions.{until-lf, until-more, end-within}
 use Rattle.frame.specs.declared.Framed.{Framed}

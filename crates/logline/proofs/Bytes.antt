@@ -6,7 +6,7 @@ use mathlib.Core.List.{List, [], _∷_, _++_}
 use native.Mathlib.Omega.{arith}
 use Rattle.machine.specs.declared.Answer.{Answer}
 use Rattle.hex.specs.Hex.{digitOf, digits}
-use Rattle.hex.proofs.Below.{both, below, below-at}
+use Rattle.laws.proofs.Below.{both, below, below-at}
 use Rattle.logline.specs.LogLine.{numbers}
 use Rattle.logline.proofs.Labels.{every}
 

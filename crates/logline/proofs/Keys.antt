@@ -10,11 +10,11 @@ use lib.ListN.{length, take, length-append}
 use lib.Seq.{take-append-seam, drop-append-seam}
 use Rattle.machine.specs.declared.Answer.{Answer}
 use Rattle.hex.specs.Hex.{bytes, digits, number}
-use Rattle.hex.proofs.Below.{below, below-at}
+use Rattle.laws.proofs.Below.{below, below-at}
 use Rattle.hex.proofs.Numbers.{length-digits, number-digits}
 use Rattle.logline.specs.Labels.{english, german, labelSets, isSet, labelOf}
 use Rattle.logline.specs.LogLine.{numbers, logBody, logLine}
-use Rattle.logline.specs.Promises.{LabelsDiffer, NumbersAreKey}
+use Rattle.logline.specs.Promises.{LabelsDiffer}
 
 -- ---- labels, by a test of every pair
 
@@ -76,9 +76,16 @@ first-20 set a =
     let n : length (numbers a) ≡ 20 = length-numbers a in
     rw (append-assoc (numbers a ++ bytes " "), append-assoc (numbers a), ← n) (take-append-seam (numbers a) _)
 
-pub numbers-are-key : NumbersAreKey
+-- the numbers of an answer have no more digits than the log gives them
+pub record InDigits (a : Answer) : Type 0 where
+  pub code : a .code < 16 ^ 2
+  pub address : a .address < 16 ^ 8
+  pub value : a .value < 16 ^ 8
+  pub enables : a .enables < 16 ^ 1
+
+pub digits-are-key : (set other : ℕ) (a b : Answer) → InDigits a → InDigits b → take 20 (logLine set a) ≡ take 20 (logLine other b) → a ≡ b
 unfolding numbers
-numbers-are-key set other a b f g e =
+digits-are-key set other a b f g e =
     let all = sym (first-20 set a) ∙ e ∙ first-20 other b in
     let c = digits 2 (a .code) in
     let c′ = digits 2 (b .code) in

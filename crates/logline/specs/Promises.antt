@@ -1,9 +1,9 @@
 -- What is promised of labels and log lines.
-use Prim.Native.Nat.{ℕ, _+_, _≤_, _<_, _^_}
+use Prim.Native.Nat.{ℕ, _+_, _≤_, _<_}
 use mathlib.Core.Path.{_≡_}
 use mathlib.Core.List.{List, []}
 use mathlib.Core.Bool.{Bool, true, _&&_}
-use lib.ListN.{length, take, getD}
+use lib.ListN.{length, getD}
 use lib.Dec.{leb, ltb}
 use Rattle.machine.specs.declared.Answer.{Answer}
 use Rattle.hex.specs.Hex.{bytes}
@@ -44,17 +44,6 @@ LineRoom =
 -- `refusal-line`: the line that refuses an unknown set, byte for byte
 abbrev pub RefusalLine : Type 0
 RefusalLine = refusal ≡ bytes "0F000000000000000000 unknown label set\n"
-
--- the numbers of an answer have no more digits than the log gives them
-pub record AnswerFits (a : Answer) : Type 0 where
-  pub code : a .code < 16 ^ 2
-  pub address : a .address < 16 ^ 8
-  pub value : a .value < 16 ^ 8
-  pub enables : a .enables < 16 ^ 1
-
--- `numbers-are-key`: the 20 digits before the label are the whole answer, whatever the sets; nothing is told by the label alone
-abbrev pub NumbersAreKey : Type 0
-NumbersAreKey = (set other : ℕ) (a b : Answer) → AnswerFits a → AnswerFits b → take 20 (logLine set a) ≡ take 20 (logLine other b) → a ≡ b
 
 -- `wrote-unique`: two results that meet one contract of writing are the same, and so are the outputs
 abbrev pub WroteUnique : Type 0

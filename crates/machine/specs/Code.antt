@@ -95,6 +95,11 @@ abbrev pub firstOf : List (ℕ × Bool) → ℕ
 firstOf [] = done
 firstOf (t ∷ ts) = cond (t .1) (t .0) (firstOf ts)
 
+-- the test of a code in a list of tests
+abbrev pub testOf : ℕ → List (ℕ × Bool) → Bool
+testOf code [] = false
+testOf code (t ∷ ts) = cond (eqb (t .0) code) (t .1) (testOf code ts)
+
 -- of all codes that apply the lowest, since the tests stand in their order; for a memory of so many words
 unfoldable pub codeOf : State → ℕ → ℕ → Access → ℕ
 codeOf st start words x = firstOf (tests st start words x)

@@ -6,7 +6,7 @@ use borrow.Author.Tests.{ltb-true}
 use Rattle.machine.specs.Access.{Access, isReadBy, isWriteBy}
 use Rattle.machine.specs.Offsets.{isMailbox, writer, reader}
 use Rattle.machine.specs.Mailboxes.{fills, takes}
-use Rattle.promises.proofs.Tests.{and-left, and-right}
+use Rattle.laws.proofs.Tests.{and-left, and-right}
 
 pub fills-box : (x : Access) → fills x ≡ true → isMailbox (x .offset) ≡ true
 fills-box x e = and-right (isWriteBy (writer (x .offset)) (x .kind)) (isMailbox (x .offset)) e

@@ -59,7 +59,7 @@ fn from_pci_status(f: Fifo) -> u32
     ensures { λ r. ⌜ r ≡ fifoStatus pci (held f) ⌝ }
 {
     flag(fifo::is_empty(f), EMPTY)
-        | flag(fifo::FOUR_WORDS <= fifo::room(f).0, FOUR)
+        | flag(fifo::has_room(f, true), FOUR)
         | flag(fifo::is_full(f), FULL)
 }
 
@@ -68,7 +68,7 @@ fn from_addon_status(f: Fifo) -> u32
     ensures { λ r. ⌜ r ≡ fifoStatus addon (held f) ⌝ }
 {
     flag(fifo::is_empty(f), EMPTY)
-        | flag(fifo::FOUR_WORDS <= fifo::fill(f).0, FOUR)
+        | flag(fifo::has_words(f, true), FOUR)
         | flag(fifo::is_full(f), FULL)
 }
 
@@ -76,8 +76,8 @@ fn from_addon_status(f: Fifo) -> u32
 pub fn mcsr_read(c: Controller) -> u32
     ensures { λ r. ⌜ r ≡ mcsrRead (stateOf c) ⌝ }
 {
-    let write_zero = flag(c.from_addon.count.0 == 0, WRITE_COUNT_ZERO);
-    let read_zero = flag(c.from_pci.count.0 == 0, READ_COUNT_ZERO);
+    let write_zero = flag(count::is_zero(c.from_addon.count), WRITE_COUNT_ZERO);
+    let read_zero = flag(count::is_zero(c.from_pci.count), READ_COUNT_ZERO);
     let out = from_addon_status(c.from_addon.fifo);
     let back = from_pci_status(c.from_pci.fifo);
     c.mcsr | (write_zero | read_zero | (out * ABOVE | back))

@@ -1,5 +1,6 @@
-// The step that works on one controller where it stands. Both contracts are the by-value step's own, `Promised`, so `step-unique` shows the three forms equal.
+// The step that works on one controller where it stands. Both contracts are the by-value step's own, `Promised`; `in-place-equal` shows the forms equal.
 ghost use Rattle.step.specs.Unique.{Promised};
+ghost use Rattle.place.specs.InPlace.{steppedTo};
 use controller::Controller;
 use machine::Answer;
 use machine::Step;
@@ -7,7 +8,7 @@ use step::Stepped;
 
 // What `step` promises of its result holds of the controller left behind the reference and of the answer.
 pub fn step_in_place(c: &mut Controller, memory: &mut [u32], start: u32, s: Step) -> Answer
-    ensures { λ r. ⌜ Promised (now (c .entry)) start (now (memory .entry)) s (record { controller = now (c .exit); answer = r }) (now (memory .exit)) ⌝ }
+    ensures { λ r. ⌜ Promised (now (c .entry)) start (now (memory .entry)) s (steppedTo (now (c .exit)) r) (now (memory .exit)) ⌝ }
 {
     let r = step::step(*c, memory, start, s);
     *c = r.controller;

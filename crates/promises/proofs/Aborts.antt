@@ -13,12 +13,12 @@ use Rattle.machine.specs.State.{State, lane}
 use Rattle.machine.specs.Access.{Access, accessOf, cycles}
 use Rattle.machine.specs.Window.{inside}
 use Rattle.machine.specs.Intcsr.{abortIn}
-use Rattle.machine.specs.Code.{tests, isAbortStanding, isNoMemory}
+use Rattle.machine.specs.Code.{tests, isAbortStanding, isNoMemory, testOf}
 use Rattle.machine.specs.Step.{stepOf, Outcome}
-use Rattle.promises.specs.Theorems.{OnlyAborts, testOf}
+use Rattle.promises.specs.Theorems.{OnlyAborts}
 use Rattle.machine.specs.declared.Step.{Step}
-use Rattle.promises.proofs.Tests.{neither, or-left, and-left, and-at}
-use Rattle.promises.proofs.Bits.{bit-zero}
+use Rattle.laws.proofs.Tests.{neither, or-left, and-left, and-at}
+use Rattle.laws.proofs.Bits.{bit-zero}
 use Rattle.promises.proofs.Refused.{lowest, refused, aborted}
 use Rattle.promises.proofs.Events.{event-rule}
 use Rattle.promises.proofs.Registers.{reset-rule}

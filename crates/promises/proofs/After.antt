@@ -6,10 +6,7 @@ use lib.Dec.{eqb, eqb·suc-zero}
 use Rattle.machine.specs.State.{State, resetState}
 use Rattle.machine.specs.Access.{Access, isReset}
 use Rattle.machine.specs.Step.{doneState, stateAfter, abortedState}
-
-pub cond-part : {A B : Type 0} (P : A → B) (b : Bool) (s t : A) → P (cond b s t) ≡ cond b (P s) (P t)
-cond-part P true s t = refl
-cond-part P false s t = refl
+use Rattle.laws.proofs.Tests.{cond-part}
 
 cond-same : {A : Type 0} (b : Bool) (s t : A) → s ≡ t → cond b s t ≡ t
 cond-same true s t e = e

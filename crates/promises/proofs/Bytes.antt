@@ -9,8 +9,8 @@ use lib.Bits.{or-lt, and-le-r}
 use borrow.Author.Tests.{eqb-true, eqb-false, ltb-true}
 use Rattle.machine.specs.Words.{bit, ones, byteMask, mask, shown, merged, written}
 use Rattle.promises.specs.Account.{byteOf}
-use Rattle.promises.proofs.Bits.{bit-or, bit-and, bit-zero, bit-cleared, bit-low, bit-shr, by-bits}
-use Rattle.promises.proofs.After.{cond-part}
+use Rattle.laws.proofs.Bits.{bit-or, bit-and, bit-zero, bit-cleared, bit-low, bit-shr, by-bits}
+use Rattle.laws.proofs.Tests.{cond-part}
 
 -- two tests agree below n if they agree on each: by computation for tests of numbers
 abbrev pub listed : ℕ → (ℕ → Bool) → List Bool

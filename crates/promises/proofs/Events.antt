@@ -12,9 +12,9 @@ use Rattle.machine.specs.Access.{Access, Kind, kindOf, reading, writing, cycle,
 use Rattle.machine.specs.Cycles.{runsOut}
 use Rattle.machine.specs.Intcsr.{intcsrKept, intcsrEvents, intcsrWritten, outgoingEvent, incomingEvent, chosenOutgoing, chosenIncoming, intcsrAfter}
 use Rattle.machine.specs.Step.{stepOf, respond, answered, replyOf, stateAfter, doneState}
-use Rattle.promises.proofs.Numbers.{named}
+use Rattle.laws.proofs.KindNumbers.{named}
 use Rattle.promises.specs.Readings.{EventRule, acknowledges, setsBit}
-use Rattle.promises.proofs.Bits.{bit-raised}
+use Rattle.laws.proofs.Bits.{bit-raised}
 use Rattle.promises.proofs.MailAccount.{at-byte}
 use Rattle.promises.proofs.Readings.{kept-bits, intcsr-written-bits}
 

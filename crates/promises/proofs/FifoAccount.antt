@@ -20,7 +20,7 @@ use Rattle.machine.specs.Run.{run}
 use Rattle.promises.specs.Account.{isDone, Tally, fresh, tallyAfter, talliedFrom}
 use Rattle.promises.specs.Theorems.{FifoAccount}
 use Rattle.machine.specs.declared.Step.{Step}
-use Rattle.promises.proofs.Tests.{none-applies, neither, or-right, and-at}
+use Rattle.laws.proofs.Tests.{none-applies, neither, or-right, and-at}
 use Rattle.promises.proofs.Numbers.{in-is, out-is, clears-is}
 use Rattle.promises.proofs.After.{part-refused, part-done}
 

@@ -1,33 +1,34 @@
 -- A step leaves a state in form in form; so from reset no step answers 1.
 use Prim.Native.Nat.{ℕ, zero, suc, _*_, _/_, _%_, _^_, _≤_, _<_}
 use mathlib.Core.Path.{_≡_, refl, sym, ap, _∙_}
-use mathlib.Core.Bool.{Bool, true, false, cond, not, _&&_, true≢false}
+use mathlib.Core.Bool.{Bool, true, false, cond, not}
 use mathlib.Core.List.{List, [], _∷_}
 use native.Mathlib.Omega.{arith}
 use lib.Dec.{eqb, ltb, eqb·suc-zero}
 use lib.Bits.{bitAnd, and-high, and-le-r}
 use lib.ListN.{length, drop, length-append, length-drop}
-use borrow.Author.Tests.{ltb-false, le-ltb, leb-true, leb-false, eqb-true, eq-eqb, not-false}
+use borrow.Author.Tests.{ltb-false, le-ltb, eqb-true, eq-eqb, not-false}
 use Rattle.machine.specs.Words.{bit, only, raised, cleared, merged, written}
 use Rattle.machine.specs.Sides.{Side, pci, addon, other, host, card}
 use Rattle.machine.specs.State.{State, lane, held, resetState}
-use Rattle.machine.specs.Access.{Access, accessOf, Kind, reading, writing, cycle, chipReset, unknown, isReset, cycles, reads, writes}
+use Rattle.machine.specs.Access.{Access, accessOf, Kind, reading, writing, cycle, chipReset, unknown, isReset, cycles, writes}
 use Rattle.machine.specs.Offsets.{fifoPort, addressAt, countAt, intcsrAt, mcsrAt}
 use Rattle.machine.specs.Commands.{clearsFifo}
-use Rattle.machine.specs.Fifos.{handedOut, fifoAfter, isEmpty, cycleFeeds, amount, followed}
+use Rattle.machine.specs.Fifos.{handedOut, fifoAfter, cycleFeeds, followed}
 use Rattle.machine.specs.Mcsr.{mcsrKept, mcsrAfter}
-use Rattle.machine.specs.Cycles.{needed, isReady, addressKept, countKept, nextAddress, countLeft, runsOut, addressAfter, countAfter, laneAfter}
+use Rattle.machine.specs.Cycles.{addressKept, countKept, nextAddress, countLeft, runsOut, addressAfter, countAfter, laneAfter}
 use Rattle.machine.specs.Intcsr.{intcsrKept, intcsrEvents, intcsrHeld, intcsrWritten, outgoingEvent, incomingEvent, countBit, intcsrAfter, intcsrAborted}
-use Rattle.machine.specs.Code.{codeOf, tests, faults, laneFaults, anyOf, isOutOfForm, isPortStuck, isFullOrEmpty, isNotReady}
+use Rattle.machine.specs.Code.{codeOf, tests, faults, laneFaults, anyOf, isOutOfForm, isFullOrEmpty, isNotReady, testOf}
 use Rattle.machine.specs.Step.{doneState, abortedState, stateAfter, stepOf, respond, replyOf, answered}
 use Rattle.machine.specs.Event.{Event}
 use Rattle.machine.specs.Run.{run}
 use Rattle.promises.specs.Account.{Every}
-use Rattle.promises.specs.Theorems.{testOf, FormKept, NeverOutOfForm}
+use Rattle.promises.specs.Theorems.{FormKept, NeverOutOfForm}
 use Rattle.machine.specs.declared.Step.{Step}
-use Rattle.promises.proofs.Tests.{none-applies, neither, any-none, or-left, and-at}
+use Rattle.laws.proofs.Tests.{none-applies, any-none}
 use Rattle.promises.proofs.Refused.{lowest-code}
-use Rattle.promises.proofs.Bits.{Only, only-or, only-and, only-and-left, only-raised, is-only, only-is}
+use Rattle.laws.proofs.Done.{room-to-write, room-to-read}
+use Rattle.laws.proofs.Bits.{Only, only-or, only-and, only-and-left, only-raised, is-only, only-is}
 
 -- ---- FIFOs: no fill above 8
 
@@ -37,24 +38,6 @@ fits true c w out ws v u h f g = omega arith
 fits false true w out ws v u h f g = let l = f refl in simp (length-append, length-drop) (omega arith)
 fits false false true out ws v u h f g = let l = g refl in simp (length-append, length-drop) (omega arith)
 fits false false false out ws v u h f g = simp length-drop (omega arith)
-
--- code 8: a port write finds room
-pub room-to-write : (side : Side) (st : State) (x : Access) → isFullOrEmpty st x ≡ false → writes side fifoPort x ≡ true → length (held side st) < 8
-unfolding isFullOrEmpty
-room-to-write side st x e w =
-    leb-false 8 _ (and-at (writes side fifoPort x) _ w (or-left _ (reads (other side) fifoPort x && isEmpty (held side st)) (neither (λ s. isPortStuck s st x) e side)))
-
--- code 12: a read cycle finds room
-at-least-one : (four : Bool) → 1 ≤ cond four 4 1
-at-least-one true = omega arith
-at-least-one false = omega arith
-
-pub room-to-read : (side : Side) (st : State) (x : Access) → isNotReady st x ≡ false → cycleFeeds side x ≡ true → length (held side st) < 8
-unfolding isNotReady isReady
-room-to-read pci st x e c =
-    let room = leb-true (needed pci (st .mcsr)) (amount pci (held pci st)) (not-false _ (and-at (cycles pci (x .kind)) _ c (neither (λ s. cycles s (x .kind) && not (isReady s st)) e pci))) in
-    omega (arith, at-least-one (bit (st .mcsr) 13))
-room-to-read addon st x e c = absurd (true≢false (sym c))
 
 fifo-form : (side : Side) (st : State) (x : Access) (word : ℕ) → isFullOrEmpty st x ≡ false → isNotReady st x ≡ false → ltb 8 (length (held side st)) ≡ false
     → ltb 8 (length (fifoAfter side x word (held side st))) ≡ false

@@ -1,9 +1,6 @@
-pub mod Tests
 pub mod Numbers
-pub mod Bits
 pub mod Bytes
 pub mod After
-pub mod Marks
 pub mod Refused
 pub mod Form
 pub mod FifoAccount
@@ -16,4 +13,6 @@ pub mod Events
 pub mod Registers
 pub mod Aborts
 pub mod Steps
+pub mod Answers
+pub mod Fits
 pub mod Unique

@@ -21,10 +21,11 @@ use Rattle.machine.specs.Run.{run}
 use Rattle.promises.specs.Account.{Touch, write, read, clear, none, isDone, toByte, ownerWrites, otherReads, clearsBytes, touch, later, latest, wasWrite}
 use Rattle.promises.specs.Theorems.{MailAccount}
 use Rattle.machine.specs.declared.Step.{Step}
-use Rattle.promises.proofs.Numbers.{named, reset-is, commands-is}
+use Rattle.laws.proofs.KindNumbers.{named}
+use Rattle.promises.proofs.Numbers.{reset-is, commands-is}
 use Rattle.promises.proofs.After.{part-refused, part-done}
-use Rattle.promises.proofs.Bits.{bit-zero}
-use Rattle.promises.proofs.Marks.{bit-marks, mark-after}
+use Rattle.laws.proofs.Bits.{bit-zero}
+use Rattle.laws.proofs.Marks.{bit-marks, mark-after}
 
 -- ---- the machine's tests on a byte are the account's
 

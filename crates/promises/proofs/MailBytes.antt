@@ -21,10 +21,10 @@ use Rattle.machine.specs.Run.{run}
 use Rattle.promises.specs.Account.{byteOf, byteAfter, byteFrom}
 use Rattle.promises.specs.Theorems.{MailBytes}
 use Rattle.machine.specs.declared.Step.{Step}
-use Rattle.promises.proofs.Tests.{and-right}
+use Rattle.laws.proofs.Tests.{and-right}
 use Rattle.promises.proofs.Numbers.{reset-is}
 use Rattle.promises.proofs.After.{part-refused, part-done}
-use Rattle.promises.proofs.Marks.{bit-marks}
+use Rattle.laws.proofs.Marks.{bit-marks}
 use Rattle.promises.proofs.Bytes.{byte-merged}
 use Rattle.promises.proofs.MailAccount.{fills-is}
 

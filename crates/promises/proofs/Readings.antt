@@ -14,8 +14,8 @@ use Rattle.machine.specs.Cycles.{addressKept, countKept, lowEnables}
 use Rattle.machine.specs.Intcsr.{intcsrKept, intcsrEvents, intcsrHeld, intcsrWritten, lineOf, intcsrRead}
 use Rattle.machine.specs.Code.{isOutOfForm, faults}
 use Rattle.promises.specs.Readings.{ShownBits, MergedBits, WrittenBits, KeptBitsHold, LowEnables, IntcsrWrittenBits, IntcsrReadBits, McsrStatus, McsrReadBits}
-use Rattle.promises.proofs.Tests.{any-none}
-use Rattle.promises.proofs.Bits.{bit-or, bit-and, bit-shl, bit-flag, bit-raised, bit-cleared, bit-ones, Only, is-only}
+use Rattle.laws.proofs.Tests.{any-none}
+use Rattle.laws.proofs.Bits.{bit-or, bit-and, bit-shl, bit-flag, bit-raised, bit-cleared, bit-ones, Only, is-only}
 use Rattle.promises.proofs.Bytes.{agree, bit-shown, bit-merged, bit-written, shown-lt}
 
 pub shown-bits : ShownBits

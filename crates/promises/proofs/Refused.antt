@@ -1,5 +1,5 @@
 -- Demand 1: a refused step changes nothing, code 13 sets INTCSR bit 20 only, and the code is the lowest of 0 to 13 that applies.
-use Prim.Native.Nat.{ℕ, zero, suc, _≤_}
+use Prim.Native.Nat.{ℕ, suc, _≤_}
 use mathlib.Core.Path.{_≡_, refl, sym, _∙_}
 use mathlib.Core.Bool.{Bool, true, false, cond, not, _&&_, true≢false, or-true, true-or}
 use mathlib.Core.List.{List, [], _∷_}
@@ -8,13 +8,14 @@ use lib.Dec.{eqb, leb}
 use lib.ListN.{length}
 use borrow.Author.Tests.{eqb-true, eq-eqb, ne-eqb, leb-true}
 use Rattle.machine.specs.State.{State}
-use Rattle.machine.specs.Access.{Access, accessOf, kindOf}
+use Rattle.machine.specs.Access.{Access, accessOf}
 use Rattle.machine.specs.Intcsr.{lineOf, intcsrAborted}
-use Rattle.machine.specs.Code.{codeOf, tests, firstOf}
-use Rattle.machine.specs.Step.{notAFrame, stepOf, respond, stateAfter, memoryAfter, answered, replyOf, abortedReply, abortedState}
-use Rattle.promises.specs.Theorems.{Numbered, Refused, NotAFrameAnswer, Aborted, AbortOnly, testOf, Lowest, LowestCode, EveryCode}
-use Rattle.promises.proofs.Tests.{and-left, and-right}
-use Rattle.promises.proofs.Bits.{bit-raised}
+use Rattle.machine.specs.Code.{codeOf, tests, firstOf, testOf}
+use Rattle.machine.specs.Step.{notAFrame, stepOf, respond, stateAfter, memoryAfter, answered, replyOf, abortedState}
+use Rattle.promises.specs.Theorems.{Numbered, Refused, NotAFrameAnswer, Aborted, AbortOnly, Lowest, LowestCode, EveryCode}
+use Rattle.laws.proofs.Tests.{and-left, and-right}
+use Rattle.laws.proofs.KindNumbers.{aborted-reply}
+use Rattle.laws.proofs.Bits.{bit-raised}
 
 -- ---- the lowest code
 
@@ -98,7 +99,7 @@ numbered st start memory s = at-most 13 1 (tests st start (length memory) (acces
 
 -- ---- refusals
 
-line-cond : (b l : Bool) → (not b && l) ≡ cond b false l
+pub line-cond : (b l : Bool) → (not b && l) ≡ cond b false l
 line-cond true l = refl
 line-cond false l = refl
 
@@ -121,19 +122,6 @@ abort-only st = record { mail = refl; marks = refl; fromPci = refl; fromAddon = 
 aborted-line : (st : State) → lineOf (abortedState st .intcsr) ≡ true
 unfolding abortedState lineOf intcsrAborted
 aborted-line st = simp (bit-raised (st .intcsr) true 20 20, or-true, true-or)
-
-pub aborted-reply : (st : State) (k : ℕ)
-    → abortedReply (kindOf k) st ≡ record { address = cond (eqb k 4) (st .fromAddon .address) (cond (eqb k 5) (st .fromPci .address) 0); value = 0; enables = 0 }
-unfolding abortedReply
-aborted-reply st zero = refl
-aborted-reply st (suc zero) = refl
-aborted-reply st (suc (suc zero)) = refl
-aborted-reply st (suc (suc (suc zero))) = refl
-aborted-reply st (suc (suc (suc (suc zero)))) = refl
-aborted-reply st (suc (suc (suc (suc (suc zero))))) = refl
-aborted-reply st (suc (suc (suc (suc (suc (suc zero)))))) = refl
-aborted-reply st (suc (suc (suc (suc (suc (suc (suc n))))))) =
-    let k = suc (suc (suc (suc (suc (suc (suc n)))))) in rw (ne-eqb k 4 (λ q. omega arith), ne-eqb k 5 (λ q. omega arith))
 
 pub aborted : Aborted
 unfolding stepOf respond stateAfter memoryAfter answered replyOf

@@ -14,8 +14,8 @@ use Rattle.machine.specs.Cycles.{addressAfter, countAfter}
 use Rattle.machine.specs.Intcsr.{intcsrKept, intcsrEvents, intcsrWritten, intcsrAfter, lineOf}
 use Rattle.machine.specs.Step.{stepOf, respond, answered, replyOf, doneReply, stateAfter, memoryAfter, doneState}
 use Rattle.promises.specs.Readings.{RegisterRule, ResetRule}
-use Rattle.promises.proofs.Numbers.{Named, named}
-use Rattle.promises.proofs.Bits.{bit-raised}
+use Rattle.laws.proofs.KindNumbers.{Named, named}
+use Rattle.laws.proofs.Bits.{bit-raised}
 use Rattle.promises.proofs.Bytes.{bit-written}
 use Rattle.promises.proofs.Readings.{kept-bits, intcsr-written-bits}
 

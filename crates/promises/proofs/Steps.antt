@@ -1,25 +1,26 @@
 -- What a read answers, what a step leaves of the memory, and what a read cycle takes from it.
 use Prim.Native.Nat.{ℕ, _/_, _<_}
 use mathlib.Core.Path.{_≡_, refl, ap, _∙_}
-use mathlib.Core.Bool.{Bool, true, false, not, _&&_, _||_}
+use mathlib.Core.Bool.{Bool, true, false, _&&_, _||_}
 use mathlib.Core.List.{List}
 use lib.Dec.{eqb}
 use lib.ListN.{length, getD, set}
 use lib.Seq.{getD-set-same}
-use borrow.Author.Tests.{eqb-true, ltb-true, not-false}
+use borrow.Author.Tests.{eqb-true}
 use Rattle.machine.specs.Words.{bit, merged}
-use Rattle.machine.specs.Sides.{Side, pci, addon}
-use Rattle.machine.specs.State.{State, lane}
-use Rattle.machine.specs.Access.{Access, accessOf, kindOf, cycles}
+use Rattle.machine.specs.Sides.{pci, addon}
+use Rattle.machine.specs.State.{State}
+use Rattle.machine.specs.Access.{accessOf, kindOf}
 use Rattle.machine.specs.Fifos.{front}
 use Rattle.machine.specs.Window.{placeOf, inside}
 use Rattle.machine.specs.Cycles.{lowEnables, cycleWord, stored}
-use Rattle.machine.specs.Code.{codeOf, tests, isNoMemory}
+use Rattle.machine.specs.Code.{codeOf}
 use Rattle.machine.specs.Step.{register, readValue, doneReply, replyOf, answered, memoryAfter, respond, stepOf}
 use Rattle.promises.specs.Readings.{ReadAnswers, Stores, MemoryRule, ReadCycleWord}
 use Rattle.machine.specs.declared.Step.{Step}
-use Rattle.promises.proofs.Tests.{none-applies, neither, and-left, and-right, and-at}
-use Rattle.promises.proofs.Numbers.{named}
+use Rattle.laws.proofs.Done.{place-inside}
+use Rattle.laws.proofs.Tests.{and-left, and-right}
+use Rattle.laws.proofs.KindNumbers.{named}
 use Rattle.promises.proofs.Bytes.{bit-shown, bit-merged}
 use Rattle.promises.proofs.Readings.{low-enables}
 
@@ -41,15 +42,6 @@ unfolding stepOf respond answered replyOf
 read-answers st start memory s e r p k h = rw e (read-value st start memory s r p k h)
 
 -- ---- memory
-
--- code 13: a done cycle's place is in the memory
-pub place-inside : (side : Side) (st : State) (start words : ℕ) (x : Access) → codeOf st start words x ≡ 0 → cycles side (x .kind) ≡ true
-    → placeOf start (lane side st .address) < words
-unfolding codeOf isNoMemory
-place-inside side st start words x e c =
-    let none = none-applies (tests st start words x) refl e 13 in
-    ltb-true _ words
-    (not-false _ (and-at (cycles side (x .kind)) _ c (neither (λ of. cycles of (x .kind) && not (inside start words (lane of st .address))) none side)))
 
 stores : (st : State) (start : ℕ) (memory : List ℕ) → placeOf start (st .fromAddon .address) < length memory → Stores st start memory (stored st start memory)
 unfolding stored

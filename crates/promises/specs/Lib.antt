@@ -2,4 +2,5 @@ pub mod Account
 pub mod Theorems
 pub mod Worthless
 pub mod Readings
+pub mod Fits
 pub mod Unique

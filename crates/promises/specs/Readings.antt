@@ -2,21 +2,24 @@
 use Prim.Native.Nat.{ℕ, _+_, _-_, _*_, _/_, _%_, _^_, _≤_, _<_, min}
 use mathlib.Core.Path.{_≡_}
 use mathlib.Core.Bool.{Bool, true, false, cond, not, _&&_, _||_}
-use mathlib.Core.List.{List}
+use mathlib.Core.List.{List, [], _∷_, map}
 use lib.Dec.{eqb, leb, ltb}
 use lib.ListN.{length, getD, set}
 use Rattle.machine.specs.Words.{bit, shown, merged, written}
 use Rattle.machine.specs.Sides.{pci, addon}
 use Rattle.machine.specs.State.{State, resetState}
 use Rattle.machine.specs.Access.{Access, accessOf, isRead, isWrite, cycles}
+use Rattle.machine.specs.Offsets.{inTable, isReadOnly}
 use Rattle.machine.specs.Fifos.{front}
 use Rattle.machine.specs.Window.{placeOf}
 use Rattle.machine.specs.Mcsr.{mcsrKept, mcsrRead}
-use Rattle.machine.specs.Cycles.{addressKept, countKept, lowEnables}
+use Rattle.machine.specs.Cycles.{addressKept, countKept, lowEnables, isReady}
 use Rattle.machine.specs.Intcsr.{intcsrKept, intcsrEvents, intcsrWritten, lineOf, intcsrRead}
-use Rattle.machine.specs.Code.{isOutOfForm}
+use Rattle.machine.specs.Code.{anyOf, isOutOfForm}
 use Rattle.machine.specs.Step.{register, stepOf}
+use Rattle.promises.specs.Account.{byteOf}
 use Rattle.machine.specs.declared.Step.{Step}
+use Rattle.machine.specs.declared.Answer.{Answer}
 
 -- ---- of the rules for words
 
@@ -76,6 +79,66 @@ pub record McsrStatus (st : State) : Type 0 where
 
 abbrev pub McsrReadBits : Type 0
 McsrReadBits = (st : State) → isOutOfForm st ≡ false → McsrStatus st
+
+-- ---- of the registers and the window
+
+-- the offset is one of a list
+abbrev pub isOneOf : List ℕ → ℕ → Bool
+isOneOf offsets offset = anyOf (map (eqb offset) offsets)
+
+-- the offsets of PCI's table, and of the Add-On's
+abbrev pub pciOffsets : List ℕ
+pciOffsets = 0x00 ∷ 0x04 ∷ 0x08 ∷ 0x0C ∷ 0x10 ∷ 0x14 ∷ 0x18 ∷ 0x1C ∷ 0x20 ∷ 0x24 ∷ 0x28 ∷ 0x2C ∷ 0x30 ∷ 0x34 ∷ 0x38 ∷ 0x3C ∷ []
+
+abbrev pub addonOffsets : List ℕ
+addonOffsets = 0x00 ∷ 0x04 ∷ 0x08 ∷ 0x0C ∷ 0x10 ∷ 0x14 ∷ 0x18 ∷ 0x1C ∷ 0x20 ∷ 0x34 ∷ []
+
+-- the read-only ones to PCI, and to the Add-On
+abbrev pub pciReadOnly : List ℕ
+pciReadOnly = 0x10 ∷ 0x14 ∷ 0x18 ∷ 0x1C ∷ 0x34 ∷ []
+
+abbrev pub addonReadOnly : List ℕ
+addonReadOnly = 0x00 ∷ 0x04 ∷ 0x08 ∷ 0x0C ∷ 0x34 ∷ []
+
+-- `offset-table`: "Register offsets", of each side those in its table and the read-only ones
+pub record OffsetTable (offset : ℕ) : Type 0 where
+  pub inPci : inTable pci offset ≡ isOneOf pciOffsets offset
+  pub inAddon : inTable addon offset ≡ isOneOf addonOffsets offset
+  pub readOnlyToPci : isReadOnly pci offset ≡ isOneOf pciReadOnly offset
+  pub readOnlyToAddon : isReadOnly addon offset ≡ isOneOf addonReadOnly offset
+
+abbrev pub OffsetTables : Type 0
+OffsetTables = (offset : ℕ) → OffsetTable offset
+
+-- `register-table`: "Register offsets", what is read at each of them but the FIFO port: the eight mailbox words, outgoing ones first, then the registers by name
+pub record RegisterTable (st : State) : Type 0 where
+  pub mail : (i : ℕ) → i < 8 → register st (4 * i) ≡ getD (st .mail) i 0
+  pub writeAddress : register st 0x24 ≡ st .fromAddon .address
+  pub writeCount : register st 0x28 ≡ st .fromAddon .count
+  pub readAddress : register st 0x2C ≡ st .fromPci .address
+  pub readCount : register st 0x30 ≡ st .fromPci .count
+  pub status : register st 0x34 ≡ st .marks
+  pub intcsr : register st 0x38 ≡ intcsrRead (st .intcsr)
+  pub mcsr : register st 0x3C ≡ mcsrRead st
+
+abbrev pub RegisterTables : Type 0
+RegisterTables = (st : State) → RegisterTable st
+
+-- `ready-rule`: "FIFOs and memory cycles", a write cycle with four words or, where MCSR 9 is clear, with one; a read cycle with room for four
+-- or, where MCSR 13 is clear, for one
+pub record ReadyThen (st : State) : Type 0 where
+  pub write : isReady addon st ≡ (leb 4 (length (st .fromAddon .words)) || not (bit (st .mcsr) 9) && leb 1 (length (st .fromAddon .words)))
+  pub read : isReady pci st ≡ (leb (length (st .fromPci .words)) 4 || not (bit (st .mcsr) 13) && leb (length (st .fromPci .words)) 7)
+
+abbrev pub ReadyRule : Type 0
+ReadyRule = (st : State) → ReadyThen st
+
+-- `place-rule`: "A step and its answer", the place of an address among the words from a start on, both of 32 bits; below the start it is past the wrap
+abbrev pub PlaceRule : Type 0
+PlaceRule =
+    (start address : ℕ) → start < 2 ^ 32 → address < 2 ^ 32
+    → (start ≤ address → placeOf start address ≡ (address - start) / 4)
+    × (address < start → placeOf start address ≡ (2 ^ 32 - (start - address)) / 4)
 
 -- ---- of a step
 
@@ -172,3 +235,54 @@ EventRule =
     (k : ℕ) → 16 ≤ k → k ≤ 21 → (st : State) (start : ℕ) (memory : List ℕ) (s : Step)
     → (let o = stepOf st start memory s in let x = accessOf s in
     o .answer .code ≡ 0 → eqb (s .kind) 6 ≡ false → bit (o .state .intcsr) k ≡ (bit (st .intcsr) k && not (acknowledges k x) || setsBit k st x))
+
+-- ---- of an answer
+
+-- "INTCSR and MCSR", the interrupt line by the bits of INTCSR: 16 with 4, 17 with 12, 18 with 14, 19 with 15, or 20, or 21
+abbrev pub isLineHigh : ℕ → Bool
+isLineHigh i = anyOf (map (λ (pair : ℕ × ℕ). bit i (pair .0) && bit i (pair .1)) ((16, 4) ∷ (17, 12) ∷ (18, 14) ∷ (19, 15) ∷ [])) || (bit i 20 || bit i 21)
+
+-- `line-rule`: every answer has the line of the state after the step, but zero for code 1
+abbrev pub LineRule : Type 0
+LineRule =
+    (st : State) (start : ℕ) (memory : List ℕ) (s : Step)
+    → (let o = stepOf st start memory s in o .answer .line ≡ cond (eqb (o .answer .code) 1) false (isLineHigh (o .state .intcsr)))
+
+-- byte i of a word in its place, if enable bit i is set
+abbrev pub byteIf : ℕ → ℕ → ℕ → ℕ
+byteIf word enables i = cond (bit enables i) (byteOf i word * 2 ^ (8 * i)) 0
+
+-- what a read answers: at the FIFO port the front word of a FIFO, else the enabled bytes of the register
+abbrev pub readThen : State → Step → List ℕ → ℕ
+readThen st s words =
+    let b = byteIf (register st (s .offset)) (s .enables) in
+    cond (eqb (s .offset) 0x20) (front words) (b 0 + b 1 + b 2 + b 3)
+
+-- What a done step answers, for each kind: 0 PCI read, 1 PCI write, 2 Add-On read, 3 Add-On write, 4 write cycle, 5 read cycle, 6 chip reset.
+-- PCI reads the FIFO that the Add-On feeds, and the Add-On the other. A cycle answers the address before the step,
+abbrev pub addresses : State → List ℕ
+addresses st = 0 ∷ 0 ∷ 0 ∷ 0 ∷ st .fromAddon .address ∷ st .fromPci .address ∷ 0 ∷ []
+
+-- the word taken from the front, or the memory word's lowest n bytes,
+abbrev pub values : State → ℕ → List ℕ → Step → List ℕ
+values st start memory s =
+    readThen st s (st .fromAddon .words) ∷ 0 ∷ readThen st s (st .fromPci .words) ∷ 0 ∷ front (st .fromAddon .words)
+    ∷ (getD memory (placeOf start (st .fromPci .address)) 0 % 2 ^ (8 * min 4 (st .fromPci .count)))
+    ∷ 0 ∷ []
+
+-- and the lowest n enables
+abbrev pub lowestEnables : State → List ℕ
+lowestEnables st = 0 ∷ 0 ∷ 0 ∷ 0 ∷ (2 ^ min 4 (st .fromAddon .count) - 1) ∷ (2 ^ min 4 (st .fromPci .count) - 1) ∷ 0 ∷ []
+
+-- `answer-rule`: "A step and its answer", "FIFOs and memory cycles", what a done step answers besides the code
+pub record AnswerThen (st : State) (start : ℕ) (memory : List ℕ) (s : Step) (after : State) (a : Answer) : Type 0 where
+  pub kind : s .kind ≤ 6
+  pub address : a .address ≡ getD (addresses st) (s .kind) 0
+  pub value : a .value ≡ getD (values st start memory s) (s .kind) 0
+  pub enables : a .enables ≡ getD (lowestEnables st) (s .kind) 0
+  pub line : a .line ≡ isLineHigh (after .intcsr)
+
+abbrev pub AnswerRule : Type 0
+AnswerRule =
+    (st : State) (start : ℕ) (memory : List ℕ) (s : Step)
+    → (let o = stepOf st start memory s in o .answer .code ≡ 0 → AnswerThen st start memory s (o .state) (o .answer))

@@ -10,7 +10,7 @@ use Rattle.machine.specs.Sides.{Side}
 use Rattle.machine.specs.State.{State, held, resetState}
 use Rattle.machine.specs.Access.{Access, accessOf}
 use Rattle.machine.specs.Intcsr.{lineOf}
-use Rattle.machine.specs.Code.{tests, isOutOfForm}
+use Rattle.machine.specs.Code.{tests, testOf, isOutOfForm}
 use Rattle.machine.specs.Step.{stepOf, notAFrame}
 use Rattle.machine.specs.Event.{Event, answers}
 use Rattle.machine.specs.Run.{Rule, runOf, run}
@@ -66,11 +66,6 @@ abbrev pub OnlyAborts : Type 0
 OnlyAborts =
     (st : State) (start : ℕ) (memory : List ℕ) (s : Step)
     → (let o = stepOf st start memory s in (not (bit (st .intcsr) 20) && bit (o .state .intcsr) 20) ≡ eqb (o .answer .code) 13)
-
--- the test of a code in a list of tests
-abbrev pub testOf : ℕ → List (ℕ × Bool) → Bool
-testOf code [] = false
-testOf code (t ∷ ts) = cond (eqb (t .0) code) (t .1) (testOf code ts)
 
 -- `lowest`: the code given applies, unless it is 0, and no code that applies is lower than it; with 0, none applies
 pub record Lowest (code : ℕ) (ts : List (ℕ × Bool)) : Type 0 where

@@ -21,13 +21,13 @@ fn register(c: Controller, offset: u32) -> u32
         return c.from_addon.address;
     }
     if offset == offsets::WRITE_COUNT {
-        return c.from_addon.count.0;
+        return count::shown(c.from_addon.count);
     }
     if offset == offsets::READ_ADDRESS {
         return c.from_pci.address;
     }
     if offset == offsets::READ_COUNT {
-        return c.from_pci.count.0;
+        return count::shown(c.from_pci.count);
     }
     if offset == offsets::STATUS {
         return c.marks;

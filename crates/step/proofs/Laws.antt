@@ -16,8 +16,8 @@ use Rattle.machine.specs.Code.{codeOf, tests}
 use Rattle.machine.specs.Step.{showing, doneReply}
 use Rattle.machine.specs.declared.Step.{Step}
 use Rattle.reads.specs.Shown.{shownBy}
-use Rattle.promises.proofs.Tests.{and-left, and-right, none-applies}
-use Rattle.promises.proofs.Form.{room-to-write, room-to-read}
+use Rattle.laws.proofs.Tests.{and-left, and-right, none-applies}
+use Rattle.laws.proofs.Done.{room-to-write, room-to-read}
 
 -- a FIFO that a step neither clears, feeds nor empties
 pub fifo-same : (side : Side) (x : Access) (word : ℕ) (ws : List ℕ) → clearsFifo side x ≡ false → cycleFeeds side x ≡ false → writes side fifoPort x ≡ false

@@ -5,7 +5,7 @@ use Rattle.machine.specs.Access.{accessOf}
 use Rattle.machine.specs.Window.{isWindowOutOfForm}
 use Rattle.machine.specs.Code.{isOutOfForm, isUnknownOffset, hasBadEnables, isPartFifoAccess, isReadOnlyWrite, isFullOrEmpty, isTransferOff, isCountZero, isAbortStanding, isNotReady, isNoMemory, codeOf}
 use Rattle.controller.specs.Controller.{stateOf}
-use Rattle.promises.proofs.Numbers.{named}
+use Rattle.laws.proofs.KindNumbers.{named}
 use Rattle.code.proofs.Laws.{access, no-cycle}
 use borrow.Author.Needs.{needs}
 use borrow.Author.Tests.{lt-ltb, le-ltb}

@@ -1,6 +1,6 @@
 use Rattle.machine.specs.Code.{isFullOrEmpty}
 use Rattle.controller.specs.Controller.{stateOf, laneOf}
-use Rattle.promises.proofs.Numbers.{named}
+use Rattle.laws.proofs.KindNumbers.{named}
 use borrow.Author.Needs.{needs}
 use Rattle.code.proofs.is_full_or_empty.Statement.{statement}
 use Rattle.code.proofs.is_full_or_empty.Tie as tie

@@ -1,5 +1,5 @@
 use Rattle.machine.specs.Code.{isReadOnlyWrite}
-use Rattle.promises.proofs.Numbers.{named}
+use Rattle.laws.proofs.KindNumbers.{named}
 use borrow.Author.Needs.{needs}
 use Rattle.code.proofs.is_read_only_write.Statement.{statement}
 use Rattle.code.proofs.is_read_only_write.Tie as tie

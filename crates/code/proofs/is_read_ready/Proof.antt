@@ -6,7 +6,7 @@ use Rattle.code.proofs.is_read_ready.Tie as tie
 
 returns : tie.Need-returns
 unfolding stateOf laneOf isReady
-returns c = simp (c .before .before .room .ensures, c .before .before .before .needed .ensures, c .before .before .before .before .bit .ensures)
+returns c = simp (c .has-room .ensures, c .before .bit .ensures)
 
 pub is-read-ready-spec : {M : Type 1} → statement M
-is-read-ready-spec = tie.close (tie.spec (λ c κs. search needs) (λ c κs. search needs) (λ c κs. search needs) returns)
+is-read-ready-spec = tie.close (tie.spec (λ c κs. search needs) (λ c κs. search needs) returns)

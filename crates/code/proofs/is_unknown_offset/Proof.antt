@@ -1,5 +1,5 @@
 use Rattle.machine.specs.Code.{isUnknownOffset}
-use Rattle.promises.proofs.Numbers.{named}
+use Rattle.laws.proofs.KindNumbers.{named}
 use borrow.Author.Needs.{needs}
 use Rattle.code.proofs.is_unknown_offset.Statement.{statement}
 use Rattle.code.proofs.is_unknown_offset.Tie as tie

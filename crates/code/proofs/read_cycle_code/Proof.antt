@@ -1,7 +1,6 @@
 use Rattle.machine.specs.Code.{isTransferOff, isCountZero, isAbortStanding, isNotReady, isNoMemory}
 use Rattle.controller.specs.Controller.{stateOf, laneOf}
 use borrow.Author.Needs.{needs}
-use borrow.Author.Tests.{ne-eqb}
 use Rattle.code.proofs.read_cycle_code.Statement.{statement}
 use Rattle.code.proofs.read_cycle_code.Tie as tie
 
@@ -12,11 +11,12 @@ read-cycle-code-spec =
     (tie.spec
     (λ c κs. search needs)
     (λ c. simp (← c .before .bit .ensures, c .if1 .taken))
-    (λ c. simp (c .if2 .taken, ← c .before .before .before .bit .ensures, c .before .before .if1 .left))
     (λ c κs. search needs)
-    (λ c. simp (← c .before .is-abort-in .ensures, c .if3 .taken, ne-eqb _ _ (c .before .before .if2 .left), ← c .before .before .before .before .before .bit .ensures, c .before .before .before .before .if1 .left))
+    (λ c. simp (← c .before .is-zero .ensures, c .if2 .taken, ← c .before .before .before .bit .ensures, c .before .before .if1 .left))
     (λ c κs. search needs)
-    (λ c. simp (← c .before .is-read-ready .ensures, c .if4 .taken, ← c .before .before .before .is-abort-in .ensures, c .before .before .if3 .left, ne-eqb _ _ (c .before .before .before .before .if2 .left), ← c .before .before .before .before .before .before .before .bit .ensures, c .before .before .before .before .before .before .if1 .left))
+    (λ c. simp (← c .before .is-abort-in .ensures, c .if3 .taken, ← c .before .before .before .is-zero .ensures, c .before .before .if2 .left, ← c .before .before .before .before .before .bit .ensures, c .before .before .before .before .if1 .left))
     (λ c κs. search needs)
-    (λ c. simp (← c .before .is-inside .ensures, c .if5 .taken, ← c .before .before .before .is-read-ready .ensures, c .before .before .if4 .left, ← c .before .before .before .before .before .is-abort-in .ensures, c .before .before .before .before .if3 .left, ne-eqb _ _ (c .before .before .before .before .before .before .if2 .left), ← c .before .before .before .before .before .before .before .before .before .bit .ensures, c .before .before .before .before .before .before .before .before .if1 .left))
-    (λ c. simp (← c .before .is-inside .ensures, c .if5 .left, ← c .before .before .before .is-read-ready .ensures, c .before .before .if4 .left, ← c .before .before .before .before .before .is-abort-in .ensures, c .before .before .before .before .if3 .left, ne-eqb _ _ (c .before .before .before .before .before .before .if2 .left), ← c .before .before .before .before .before .before .before .before .before .bit .ensures, c .before .before .before .before .before .before .before .before .if1 .left)))
+    (λ c. simp (← c .before .is-read-ready .ensures, c .if4 .taken, ← c .before .before .before .is-abort-in .ensures, c .before .before .if3 .left, ← c .before .before .before .before .before .is-zero .ensures, c .before .before .before .before .if2 .left, ← c .before .before .before .before .before .before .before .bit .ensures, c .before .before .before .before .before .before .if1 .left))
+    (λ c κs. search needs)
+    (λ c. simp (← c .before .is-inside .ensures, c .if5 .taken, ← c .before .before .before .is-read-ready .ensures, c .before .before .if4 .left, ← c .before .before .before .before .before .is-abort-in .ensures, c .before .before .before .before .if3 .left, ← c .before .before .before .before .before .before .before .is-zero .ensures, c .before .before .before .before .before .before .if2 .left, ← c .before .before .before .before .before .before .before .before .before .bit .ensures, c .before .before .before .before .before .before .before .before .if1 .left))
+    (λ c. simp (← c .before .is-inside .ensures, c .if5 .left, ← c .before .before .before .is-read-ready .ensures, c .before .before .if4 .left, ← c .before .before .before .before .before .is-abort-in .ensures, c .before .before .before .before .if3 .left, ← c .before .before .before .before .before .before .before .is-zero .ensures, c .before .before .before .before .before .before .if2 .left, ← c .before .before .before .before .before .before .before .before .before .bit .ensures, c .before .before .before .before .before .before .before .before .if1 .left)))

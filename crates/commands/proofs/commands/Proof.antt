@@ -1,4 +1,4 @@
-use Rattle.promises.proofs.Numbers.{named}
+use Rattle.laws.proofs.KindNumbers.{named}
 use borrow.Author.Needs.{needs}
 use Rattle.commands.proofs.commands.Statement.{statement}
 use Rattle.commands.proofs.commands.Tie as tie

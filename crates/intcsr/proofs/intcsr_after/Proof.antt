@@ -3,7 +3,7 @@ use borrow.Author.Tests.{eqb-true}
 use Rattle.machine.specs.Intcsr.{intcsrAfter}
 use Rattle.machine.specs.Access.{accessOf}
 use Rattle.controller.specs.Controller.{laneOf, stateOf}
-use Rattle.promises.proofs.Tests.{and-left, and-right}
+use Rattle.laws.proofs.Tests.{and-left, and-right}
 use Rattle.intcsr.proofs.Laws.{untouched}
 use borrow.Author.Needs.{needs}
 use Rattle.intcsr.proofs.intcsr_after.Statement.{statement}

@@ -4,7 +4,7 @@ use mathlib.Core.Bool.{false}
 use native.Mathlib.Omega.{arith}
 use Rattle.machine.specs.Words.{bit}
 use Rattle.machine.specs.Intcsr.{lineOf}
-use Rattle.promises.proofs.Bits.{bit-beyond}
+use Rattle.laws.proofs.Bits.{bit-beyond}
 use borrow.Author.Needs.{needs}
 use Rattle.intcsr.proofs.line.Statement.{statement}
 use Rattle.intcsr.proofs.line.Tie as tie

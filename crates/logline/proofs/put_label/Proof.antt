@@ -1,4 +1,4 @@
-use Rattle.hex.proofs.Below.{none-below}
+use Rattle.laws.proofs.Below.{none-below}
 use Rattle.logline.specs.Labels.{labelSets, labelOf}
 use Rattle.logline.proofs.Labels.{no-set}
 use Rattle.logline.proofs.Stores.{wrote-none}

@@ -1,6 +1,6 @@
 use native.Mathlib.Omega.{arith}
 use borrow.Author.Tests.{lt-ltb, le-ltb}
-use Rattle.promises.proofs.Numbers.{named}
+use Rattle.laws.proofs.KindNumbers.{named}
 use Rattle.mailboxes.proofs.is_other_read.Statement.{statement}
 use Rattle.mailboxes.proofs.is_other_read.Tie as tie
 

@@ -1,8 +1,8 @@
 use native.Mathlib.Nat.{mod-eq-of-lt}
 use borrow.Author.Tests.{ltb-true}
 use Rattle.machine.specs.Mailboxes.{marksAt}
-use Rattle.promises.proofs.Tests.{and-left}
-use Rattle.promises.proofs.Marks.{marks-lt}
+use Rattle.laws.proofs.Tests.{and-left}
+use Rattle.laws.proofs.Marks.{marks-lt}
 use Rattle.mailboxes.proofs.marks_at.Statement.{statement}
 use Rattle.mailboxes.proofs.marks_at.Tie as tie
 

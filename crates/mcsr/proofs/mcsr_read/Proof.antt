@@ -14,7 +14,7 @@ mul-result c = omega (arith, c .before .from-addon-status .ensures, status-small
 
 returns : tie.Need-returns
 unfolding stateOf laneOf mcsrRead mcsrStatus flag
-returns c = simp (c .before .from-pci-status .ensures, c .before .before .from-addon-status .ensures, c .before .before .before .flag2 .ensures, c .before .before .before .before .before .flag .ensures)
+returns c = simp (c .before .from-pci-status .ensures, c .before .before .from-addon-status .ensures, c .before .before .before .flag2 .ensures, c .before .before .before .before .is-zero2 .ensures, c .before .before .before .before .before .flag .ensures, c .before .before .before .before .before .before .is-zero .ensures)
 
 pub mcsr-read-spec : {M : Type 1} → statement M
-mcsr-read-spec = tie.close (tie.spec (λ c κs. search needs) (λ c κs. search needs) (λ c κs. search needs) (λ c κs. search needs) mul-result returns)
+mcsr-read-spec = tie.close (tie.spec (λ c κs. search needs) (λ c κs. search needs) (λ c κs. search needs) (λ c κs. search needs) (λ c κs. search needs) (λ c κs. search needs) mul-result returns)

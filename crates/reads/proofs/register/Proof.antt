@@ -20,7 +20,7 @@ returns-2 c = rw (c .if2 .taken)
 
 returns-3 : tie.Need-returns-3
 unfolding stateOf laneOf register
-returns-3 c = rw (c .if3 .taken)
+returns-3 c = rw (c .before .if3 .taken) (c .shown .ensures)
 
 returns-4 : tie.Need-returns-4
 unfolding stateOf laneOf register
@@ -28,7 +28,7 @@ returns-4 c = rw (c .if4 .taken)
 
 returns-5 : tie.Need-returns-5
 unfolding stateOf laneOf register
-returns-5 c = rw (c .if5 .taken)
+returns-5 c = rw (c .before .if5 .taken) (c .shown2 .ensures)
 
 returns-6 : tie.Need-returns-6
 unfolding stateOf register
@@ -45,4 +45,4 @@ returns-8 c =
     simp (none, ne-eqb _ _ (c .before .if7 .left), ne-eqb _ _ (c .before .before .if6 .left), ne-eqb _ _ (c .before .before .before .if5 .left), ne-eqb _ _ (c .before .before .before .before .if4 .left), ne-eqb _ _ (c .before .before .before .before .before .if3 .left), ne-eqb _ _ (c .before .before .before .before .before .before .if2 .left), c .mcsr-read .ensures)
 
 pub register-spec : {M : Type 1} → statement M
-register-spec = tie.close (tie.spec (λ c κs. search needs) (λ c κs. search needs) returns returns-2 returns-3 returns-4 returns-5 returns-6 (λ c κs. search needs) returns-7 (λ c κs. search needs) returns-8)
+register-spec = tie.close (tie.spec (λ c κs. search needs) (λ c κs. search needs) returns returns-2 (λ c κs. search needs) returns-3 returns-4 (λ c κs. search needs) returns-5 returns-6 (λ c κs. search needs) returns-7 (λ c κs. search needs) returns-8)

@@ -1,7 +1,7 @@
 use borrow.Author.Tests.{ne-eqb}
 use Rattle.machine.specs.Step.{abortedReply}
 use Rattle.controller.specs.Controller.{stateOf, laneOf}
-use Rattle.promises.proofs.Refused.{aborted-reply}
+use Rattle.laws.proofs.KindNumbers.{aborted-reply}
 use Rattle.step.proofs.cycle_address.Statement.{statement}
 use Rattle.step.proofs.cycle_address.Tie as tie
 

@@ -2,7 +2,7 @@ use mathlib.Core.Path.{_∙_}
 use borrow.Author.Tests.{ne-eqb}
 use Rattle.machine.specs.Sides.{pci, addon}
 use Rattle.machine.specs.Step.{respond, replyOf, doneReply, stateAfter, memoryAfter}
-use Rattle.promises.proofs.Numbers.{named}
+use Rattle.laws.proofs.KindNumbers.{named}
 use Rattle.step.proofs.Laws.{room}
 use borrow.Author.Needs.{needs}
 use Rattle.step.proofs.done.Statement.{statement}

@@ -5,7 +5,7 @@ use Rattle.machine.specs.Access.{accessOf}
 use Rattle.machine.specs.Cycles.{cycleWord}
 use Rattle.machine.specs.Step.{showing, doneReply}
 use Rattle.controller.specs.Controller.{stateOf, laneOf}
-use Rattle.promises.proofs.Steps.{place-inside}
+use Rattle.laws.proofs.Done.{place-inside}
 use Rattle.step.proofs.Laws.{access-reply}
 use borrow.Author.Needs.{needs}
 use Rattle.step.proofs.done_reply.Statement.{statement}

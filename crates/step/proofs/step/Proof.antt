@@ -4,7 +4,7 @@ use borrow.Author.Tests.{ne-eqb, eq-eqb}
 use lib.Dec.{eqb}
 use Rattle.machine.specs.Step.{stepOf, respond, replyOf, answered, stateAfter, memoryAfter}
 use Rattle.controller.specs.Controller.{stateOf}
-use Rattle.promises.proofs.Refused.{aborted-reply}
+use Rattle.laws.proofs.KindNumbers.{aborted-reply}
 use borrow.Author.Needs.{needs}
 use Rattle.step.proofs.step.Statement.{statement}
 use Rattle.step.proofs.step.Tie as tie

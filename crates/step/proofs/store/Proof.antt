@@ -3,8 +3,8 @@ use Rattle.machine.specs.Sides.{addon}
 use Rattle.machine.specs.Cycles.{stored}
 use Rattle.machine.specs.Step.{memoryAfter}
 use Rattle.controller.specs.Controller.{stateOf, laneOf}
-use Rattle.promises.proofs.Numbers.{named}
-use Rattle.promises.proofs.Steps.{place-inside}
+use Rattle.laws.proofs.KindNumbers.{named}
+use Rattle.laws.proofs.Done.{place-inside}
 use borrow.Author.Needs.{needs}
 use Rattle.step.proofs.store.Statement.{statement}
 use Rattle.step.proofs.store.Tie as tie

@@ -1,7 +1,7 @@
 use mathlib.Core.Path.{refl, sym}
 use native.Mathlib.Omega.{arith}
 use Rattle.machine.specs.Words.{bit}
-use Rattle.promises.proofs.Bits.{bit-beyond}
+use Rattle.laws.proofs.Bits.{bit-beyond}
 use borrow.Author.Needs.{needs}
 use Rattle.word.proofs.bit.Statement.{statement}
 use Rattle.word.proofs.bit.Tie as tie

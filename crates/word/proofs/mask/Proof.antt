@@ -1,9 +1,9 @@
 use Prim.Native.Nat.{ℕ, _%_}
 use mathlib.Core.Path.{_≡_}
 use native.Mathlib.Omega.{arith}
-use Rattle.hex.proofs.Below.{none-below}
+use Rattle.laws.proofs.Below.{none-below}
 use Rattle.machine.specs.Words.{bit, mask, byteMask}
-use Rattle.promises.proofs.Bits.{bit-low}
+use Rattle.laws.proofs.Bits.{bit-low}
 use Rattle.word.proofs.mask.Statement.{statement}
 use Rattle.word.proofs.mask.Tie as tie
 

@@ -1,4 +1,4 @@
--- Laws of tests: of `&&` and `||`, of a list of tests, and of the first that applies.
+-- Laws of tests: of `&&`, `||` and `cond`, of a list of tests, and of the first that applies.
 use Prim.Native.Nat.{ℕ, zero, suc}
 use mathlib.Core.Path.{_≡_, refl, sym, _∙_}
 use mathlib.Core.Bool.{Bool, true, false, cond, not, _&&_, _||_, true≢false}
@@ -7,8 +7,7 @@ use lib.Dec.{eqb}
 use lib.ListN.{getD}
 use borrow.Author.Tests.{eq-eqb}
 use Rattle.machine.specs.Sides.{Side, pci, addon, either}
-use Rattle.machine.specs.Code.{firstOf, anyOf}
-use Rattle.promises.specs.Theorems.{testOf}
+use Rattle.machine.specs.Code.{firstOf, testOf, anyOf}
 
 pub or-left : (a b : Bool) → (a || b) ≡ false → a ≡ false
 or-left true b e = e
@@ -29,6 +28,11 @@ and-right false b e = absurd (true≢false (sym e))
 pub and-at : (a b : Bool) → a ≡ true → (a && b) ≡ false → b ≡ false
 and-at true b e f = f
 and-at false b e f = absurd (true≢false (sym e))
+
+-- a part of what a test chooses
+pub cond-part : {A B : Type 0} (P : A → B) (b : Bool) (s t : A) → P (cond b s t) ≡ cond b (P s) (P t)
+cond-part P true s t = refl
+cond-part P false s t = refl
 
 -- of neither side
 pub neither : (f : Side → Bool) → either f ≡ false → (side : Side) → f side ≡ false

@@ -12,9 +12,8 @@ use Rattle.machine.specs.Offsets.{isMailbox, reader}
 use Rattle.machine.specs.Access.{Access, isReadBy}
 use Rattle.machine.specs.Commands.{clearsMarks}
 use Rattle.machine.specs.Mailboxes.{marksAt, fills, takes, fillsByte, takesByte, marksAfter}
-use Rattle.promises.proofs.Tests.{and-left, and-right}
-use Rattle.promises.proofs.Bits.{bit-or, bit-shl, bit-low, bit-cleared, bit-zero}
-use Rattle.promises.proofs.After.{cond-part}
+use Rattle.laws.proofs.Tests.{and-left, and-right, cond-part}
+use Rattle.laws.proofs.Bits.{bit-or, bit-shl, bit-low, bit-cleared, bit-zero}
 
 -- the marks of a mailbox's enabled bytes: byte k of the status is byte k % 4 of the mailbox at k / 4 * 4
 pub bit-marks : (o e k : ℕ) → isMailbox o ≡ true → bit (marksAt o e) k ≡ (eqb o (k / 4 * 4) && bit e (k % 4))

@@ -1,0 +1,6 @@
+pub mod Below
+pub mod Tests
+pub mod Bits
+pub mod Marks
+pub mod KindNumbers
+pub mod Done

@@ -1,0 +1,19 @@
+-- "A station runs for weeks: besides the by-value step, one form works on that one controller where it stands, proved equal to it."
+use Prim.Native.Nat.{ℕ}
+use mathlib.Core.List.{List}
+use Rattle.machine.specs.declared.Step.{Step}
+use Rattle.machine.specs.declared.Answer.{Answer}
+use Rattle.controller.specs.declared.Controller.{Controller}
+use Rattle.step.specs.declared.Stepped.{Stepped}
+use Rattle.step.specs.Unique.{Promised, Same}
+
+-- the controller left behind the reference and the answer, as the by-value step gives them
+abbrev pub steppedTo : Controller → Answer → Stepped
+steppedTo left a = record { controller = left; answer = a }
+
+-- `in-place-equal`: a result of `step::step` and one of `step_in_place`, each of which meets its contract, are the same: state, answer and memory, and where
+-- refused the controllers to the letter
+abbrev pub InPlaceEqual : Type 0
+InPlaceEqual =
+    (c : Controller) (start : ℕ) (memory : List ℕ) (s : Step) (r : Stepped) (after : List ℕ) (left : Controller) (a : Answer) (also : List ℕ)
+    → Promised c start memory s r after → Promised c start memory s (steppedTo left a) also → Same r (steppedTo left a) after also
