@@ -16,9 +16,9 @@ use Rattle.hex.specs.Hex.{hexDigits, placeIn, digitNumber, number, numberFrom}
 use Rattle.lines.specs.Lines.{linesFrom}
 use Rattle.logline.specs.Labels.{english, german, labelSets, isSet}
 use Rattle.logline.specs.LogLine.{refusal}
-use Rattle.log.specs.Log.{logOf, toldOf, textTold, fedOf}
-use Rattle.log.specs.Promises.{joined, piecesTold, programLog}
-use Rattle.log.proofs.Told.{log-append}
+use Rattle.log.specs.Log.{logOf, linesOutcome, textOutcome, pieceOutcome}
+use Rattle.log.specs.Promises.{joined, piecesOutcome, programLog}
+use Rattle.log.proofs.TextOutcome.{log-append}
 use Rattle.log.proofs.Pieces.{pieces-joined}
 use Rattle.input.specs.declared.Reading.{Reading}
 use Rattle.input.specs.declared.Reading.the-variants.{FirstLine, Frames, Over}
@@ -38,11 +38,11 @@ module _ (start : ℕ) where
   over-none st memory begun (p ∷ more) = rw (passing-over p) (over-none st memory begun more)
 
   pub frames-log : (set : ℕ) (st : State) (memory begun : List ℕ) (pieces : List (List ℕ))
-      → piecesLog (Frames set) st start memory begun pieces ≡ logOf set (piecesTold st start memory begun pieces .answers)
-  unfolding piecesLog endedInput fedInput fedPast piecesTold
+      → piecesLog (Frames set) st start memory begun pieces ≡ logOf set (piecesOutcome st start memory begun pieces .answers)
+  unfolding piecesLog endedInput fedInput fedPast piecesOutcome
   frames-log set st memory begun [] = refl
   frames-log set st memory begun (p ∷ more) =
-      let f = fedOf st start memory begun p in
+      let f = pieceOutcome st start memory begun p in
       rw (passing-frames set p) (ap (λ (l : List ℕ). logOf set (f .answers) ++ l) (frames-log set (f .state) (f .memory) (f .begun) more) ∙ sym (log-append set (f .answers) _))
 
   -- ---- pieces as one
@@ -52,7 +52,7 @@ module _ (start : ℕ) where
     abbrev from : SetLine → List (List ℕ) → List ℕ
     from line pieces = piecesLog (FirstLine line) st start memory [] pieces
 
-    frames-text : (set : ℕ) (pieces : List (List ℕ)) → piecesLog (Frames set) st start memory [] pieces ≡ logOf set (textTold st start memory (joined pieces) .answers)
+    frames-text : (set : ℕ) (pieces : List (List ℕ)) → piecesLog (Frames set) st start memory [] pieces ≡ logOf set (textOutcome st start memory (joined pieces) .answers)
     frames-text set pieces = frames-log set st memory [] pieces ∙ rw (pieces-joined st start memory pieces)
 
     -- the set line, further on: what had come of it before the piece does not matter
@@ -68,7 +68,7 @@ module _ (start : ℕ) where
 
     -- frames from the first piece on
     pub frames-from : (line : SetLine) (p rest : List ℕ) (set : ℕ) (more : List (List ℕ)) → passing (FirstLine line) p ≡ record { reading = Frames set; rest = rest }
-        → from line (p ∷ more) ≡ logOf set (textTold st start memory (rest ++ joined more) .answers)
+        → from line (p ∷ more) ≡ logOf set (textOutcome st start memory (rest ++ joined more) .answers)
     unfolding piecesLog fedInput fedPast
     frames-from line p rest set more e = rw e (let t = frames-text set (rest ∷ more) in rw (passing-frames set rest) at t)
 
@@ -138,7 +138,7 @@ lf-first x e = rw (e, lf-digit)
 
 -- an empty text has an empty log
 empty-log : (set : ℕ) → programLog set [] ≡ []
-unfolding programLog linesFrom toldOf logOf
+unfolding programLog linesFrom linesOutcome logOf
 empty-log set = refl
 
 by-refusal : (begun xs : List ℕ) → isSetLine (begun ++ firstLine xs) ≡ false → refusal ≡ byFirst begun xs

@@ -9,7 +9,7 @@ use Rattle.hex.specs.Hex.{digitNumber, allDigits, number}
 use Rattle.lines.specs.Lines.{lf, lineAt, pastLine}
 use Rattle.logline.specs.Labels.{isSet}
 use Rattle.logline.specs.LogLine.{refusal}
-use Rattle.log.specs.Log.{logOf, textTold, fedOf}
+use Rattle.log.specs.Log.{logOf, textOutcome, pieceOutcome}
 use Rattle.log.specs.Promises.{programLog}
 use Rattle.input.specs.declared.Reading.{Reading}
 use Rattle.input.specs.declared.Reading.the-variants.{FirstLine, Frames, Over}
@@ -55,7 +55,7 @@ passing Over (x ∷ xs) = record { reading = Over; rest = x ∷ xs }
 -- ---- an input in pieces
 
 -- what a piece, or the end of the input, leaves: how far the reading has come, state, memory, the line that has not ended, and the log
-pub record Leaving : Type 0 where
+pub record InputOutcome : Type 0 where
   pub reading : Reading
   pub state : State
   pub memory : List ℕ
@@ -69,23 +69,23 @@ refusalAfter (Frames set) = []
 refusalAfter Over = []
 
 -- past the set line: frames are fed under the set; `before` is how far the reading had come before the piece
-unfoldable pub fedPast : Reading → Reading → State → ℕ → List ℕ → List ℕ → List ℕ → Leaving
+unfoldable pub fedPast : Reading → Reading → State → ℕ → List ℕ → List ℕ → List ℕ → InputOutcome
 fedPast before (FirstLine line) st start memory begun rest = record { reading = FirstLine line; state = st; memory = memory; begun = begun; log = [] }
 fedPast before (Frames set) st start memory begun rest =
-    let f = fedOf st start memory begun rest in
+    let f = pieceOutcome st start memory begun rest in
     record { reading = Frames set; state = f .state; memory = f .memory; begun = f .begun; log = logOf set (f .answers) }
 fedPast before Over st start memory begun rest = record { reading = Over; state = st; memory = memory; begun = begun; log = refusalAfter before }
 
-unfoldable pub fedInput : Reading → State → ℕ → List ℕ → List ℕ → List ℕ → Leaving
+unfoldable pub fedInput : Reading → State → ℕ → List ℕ → List ℕ → List ℕ → InputOutcome
 fedInput r st start memory begun piece = let p = passing r piece in fedPast r (p .reading) st start memory begun (p .rest)
 
 -- the end of the input: a set line without a set is refused, frames end as a text does
-unfoldable pub endedFirst : Bool → SetLine → State → List ℕ → List ℕ → Leaving
+unfoldable pub endedFirst : Bool → SetLine → State → List ℕ → List ℕ → InputOutcome
 endedFirst known line st memory begun = record { reading = cond known (FirstLine line) Over; state = st; memory = memory; begun = begun; log = cond known [] refusal }
 
-unfoldable pub endedInput : Reading → State → ℕ → List ℕ → List ℕ → Leaving
+unfoldable pub endedInput : Reading → State → ℕ → List ℕ → List ℕ → InputOutcome
 endedInput (FirstLine line) st start memory begun = endedFirst (hasSet line) line st memory begun
 endedInput (Frames set) st start memory begun =
-    let t = textTold st start memory begun in
+    let t = textOutcome st start memory begun in
     record { reading = Frames set; state = t .state; memory = t .memory; begun = begun; log = logOf set (t .answers) }
 endedInput Over st start memory begun = record { reading = Over; state = st; memory = memory; begun = begun; log = [] }

@@ -13,10 +13,10 @@ use Rattle.log.specs.Results.{isShort, withLog, begunOf}
 use Rattle.input.specs.declared.Reading.{Reading}
 use Rattle.input.specs.declared.Reading.the-variants.{FirstLine, Frames, Over}
 use Rattle.input.specs.declared.Input.{Input}
-use Rattle.input.specs.declared.Fed.{Fed}
-use Rattle.input.specs.declared.Finished.{Finished}
+use Rattle.input.specs.declared.FeedResult.{FeedResult}
+use Rattle.input.specs.declared.FinishResult.{FinishResult}
 use Rattle.input.specs.declared.Passed.{Passed}
-use Rattle.input.specs.Input.{passing, Leaving, fedInput, endedInput}
+use Rattle.input.specs.Input.{passing, InputOutcome, fedInput, endedInput}
 
 -- inside: the bytes of the set line are passed
 pub record PassedBy (reading : Reading) (piece : List ℕ) (r : Passed) : Type 0 where
@@ -33,7 +33,7 @@ pub record InputRun : Type 0 where
   pub log : Logged
 
 -- with 40 bytes for each of so many lines what is left is left; with fewer nothing is done, and no byte is written
-unfoldable pub withRoom : ℕ → InputRun → Leaving → InputRun
+unfoldable pub withRoom : ℕ → InputRun → InputOutcome → InputRun
 withRoom most before l =
     cond (isShort most (before .out))
     before
@@ -44,14 +44,14 @@ unfoldable pub asItIs : Input → List ℕ → List ℕ → InputRun
 asItIs i memory out = record { reading = i .reading; state = stateOf (i .stream .controller); memory = memory; begun = begunOf (i .stream); out = out; log = NoRoom }
 
 -- what `feed` and `finish` leave
-abbrev pub leftBy : Fed → List ℕ → List ℕ → InputRun
+abbrev pub leftBy : FeedResult → List ℕ → List ℕ → InputRun
 leftBy r memory out = record { reading = r .input .reading; state = stateOf (r .input .stream .controller); memory = memory; begun = begunOf (r .input .stream); out = out; log = r .log }
 
-abbrev pub leftAtEnd : Input → Finished → List ℕ → List ℕ → InputRun
+abbrev pub leftAtEnd : Input → FinishResult → List ℕ → List ℕ → InputRun
 leftAtEnd i r memory out = record { reading = r .reading; state = stateOf (r .controller); memory = memory; begun = begunOf (i .stream); out = out; log = r .log }
 
 -- What `feed` promises: a piece may end a line at each byte, and a refusal is one line more. Without room the input comes back to the letter.
-pub record FeedPromised (i : Input) (start : ℕ) (memory piece out : List ℕ) (r : Fed) (memory′ out′ : List ℕ) : Type 0 where
+pub record FeedPromised (i : Input) (start : ℕ) (memory piece out : List ℕ) (r : FeedResult) (memory′ out′ : List ℕ) : Type 0 where
   pub fed : leftBy r memory′ out′ ≡ withRoom (length piece + 1) (asItIs i memory out) (fedInput (i .reading) (stateOf (i .stream .controller)) start memory (begunOf (i .stream)) piece)
   pub refused : isShort (length piece + 1) out ≡ true → r .input ≡ i
 
@@ -62,7 +62,7 @@ linesLeft (Frames set) begun = length (lines begun)
 linesLeft Over begun = 0
 
 -- what `finish` promises; without room the controller comes back to the letter
-pub record FinishPromised (i : Input) (start : ℕ) (memory out : List ℕ) (r : Finished) (memory′ out′ : List ℕ) : Type 0 where
+pub record FinishPromised (i : Input) (start : ℕ) (memory out : List ℕ) (r : FinishResult) (memory′ out′ : List ℕ) : Type 0 where
   pub ended :
       leftAtEnd i r memory′ out′
       ≡ withRoom (linesLeft (i .reading) (begunOf (i .stream))) (asItIs i memory out) (endedInput (i .reading) (stateOf (i .stream .controller)) start memory (begunOf (i .stream)))
@@ -71,12 +71,12 @@ pub record FinishPromised (i : Input) (start : ℕ) (memory out : List ℕ) (r :
 -- `input-feed-unique`, `input-finish-unique`: two results that meet one contract are the same, FIFOs by the words that they hold; without room to the letter
 abbrev pub InputFeedUnique : Type 0
 InputFeedUnique =
-    (i : Input) (start : ℕ) (memory piece out : List ℕ) (r q : Fed) (memory′ memory″ out′ out″ : List ℕ)
+    (i : Input) (start : ℕ) (memory piece out : List ℕ) (r q : FeedResult) (memory′ memory″ out′ out″ : List ℕ)
     → FeedPromised i start memory piece out r memory′ out′ → FeedPromised i start memory piece out q memory″ out″
     → (leftBy r memory′ out′ ≡ leftBy q memory″ out″) × (isShort (length piece + 1) out ≡ true → r .input ≡ q .input)
 
 abbrev pub InputFinishUnique : Type 0
 InputFinishUnique =
-    (i : Input) (start : ℕ) (memory out : List ℕ) (r q : Finished) (memory′ memory″ out′ out″ : List ℕ)
+    (i : Input) (start : ℕ) (memory out : List ℕ) (r q : FinishResult) (memory′ memory″ out′ out″ : List ℕ)
     → FinishPromised i start memory out r memory′ out′ → FinishPromised i start memory out q memory″ out″
     → (leftAtEnd i r memory′ out′ ≡ leftAtEnd i q memory″ out″) × (isShort (linesLeft (i .reading) (begunOf (i .stream))) out ≡ true → r .controller ≡ q .controller)

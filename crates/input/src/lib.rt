@@ -38,13 +38,13 @@ pub struct Input {
 }
 
 // An input after a piece, and the log of the piece.
-pub struct Fed {
+pub struct FeedResult {
     pub input: Input,
     pub log: Logged,
 }
 
 // An input at its end, and the log of its last line.
-pub struct Finished {
+pub struct FinishResult {
     pub reading: Reading,
     pub controller: Controller,
     pub log: Logged,
@@ -166,11 +166,11 @@ fn put_refusal_after(out: &mut [u8], before: Reading) -> usize
 
 // One piece: what it answers stands at the output's start. Each byte of the piece could end a line, and a refusal is one more:
 // where the output has not 40 bytes for each, nothing is done.
-pub fn feed(i: Input, memory: &mut [u32], start: u32, piece: &[u8], out: &mut [u8]) -> Fed
+pub fn feed(i: Input, memory: &mut [u32], start: u32, piece: &[u8], out: &mut [u8]) -> FeedResult
     ensures { λ r. ⌜ FeedPromised i start (now (memory .entry)) (now (piece .entry)) (now (out .entry)) r (now (memory .exit)) (now (out .exit)) ⌝ }
 {
     if out.len() / LINE_ROOM <= piece.len() {
-        return Fed {
+        return FeedResult {
             input: i,
             log: Logged::NoRoom,
         };
@@ -186,7 +186,7 @@ pub fn feed(i: Input, memory: &mut [u32], start: u32, piece: &[u8], out: &mut [u
                 reading: Reading::FirstLine(line),
                 stream,
             };
-            Fed {
+            FeedResult {
                 input,
                 log: Logged::Written(0),
             }
@@ -199,7 +199,7 @@ pub fn feed(i: Input, memory: &mut [u32], start: u32, piece: &[u8], out: &mut [u
                 reading: Reading::Frames(set),
                 stream: left,
             };
-            Fed { input, log }
+            FeedResult { input, log }
         }
         Reading::Over => {
             let n = put_refusal_after(out, before);
@@ -207,7 +207,7 @@ pub fn feed(i: Input, memory: &mut [u32], start: u32, piece: &[u8], out: &mut [u
                 reading: Reading::Over,
                 stream,
             };
-            Fed {
+            FeedResult {
                 input,
                 log: Logged::Written(n),
             }
@@ -230,7 +230,7 @@ fn has_set(line: SetLine) -> bool
 
 // The end of the input: what it answers stands at the output's start. Where the output has not 40 bytes for each line that may
 // still be answered, nothing is done.
-pub fn finish(i: Input, memory: &mut [u32], start: u32, out: &mut [u8]) -> Finished
+pub fn finish(i: Input, memory: &mut [u32], start: u32, out: &mut [u8]) -> FinishResult
     ensures { λ r. ⌜ FinishPromised i start (now (memory .entry)) (now (out .entry)) r (now (memory .exit)) (now (out .exit)) ⌝ }
 {
     let reading = i.reading;
@@ -239,21 +239,21 @@ pub fn finish(i: Input, memory: &mut [u32], start: u32, out: &mut [u8]) -> Finis
     match reading {
         Reading::FirstLine(line) => {
             if out.len() < LINE_ROOM {
-                return Finished {
+                return FinishResult {
                     reading: Reading::FirstLine(line),
                     controller,
                     log: Logged::NoRoom,
                 };
             }
             if has_set(line) {
-                return Finished {
+                return FinishResult {
                     reading: Reading::FirstLine(line),
                     controller,
                     log: Logged::Written(0),
                 };
             }
             let n = put_refusal(out);
-            Finished {
+            FinishResult {
                 reading: Reading::Over,
                 controller,
                 log: Logged::Written(n),
@@ -263,13 +263,13 @@ pub fn finish(i: Input, memory: &mut [u32], start: u32, out: &mut [u8]) -> Finis
             let r = log::finish(stream, memory, start, out, set);
             let left = r.controller;
             let log = r.log;
-            Finished {
+            FinishResult {
                 reading: Reading::Frames(set),
                 controller: left,
                 log,
             }
         }
-        Reading::Over => Finished {
+        Reading::Over => FinishResult {
             reading: Reading::Over,
             controller,
             log: Logged::Written(0),

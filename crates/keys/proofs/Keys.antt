@@ -14,7 +14,7 @@ use Rattle.frame.specs.declared.Framed.{Framed}
 use Rattle.frame.specs.declared.Framed.the-variants.{Frame, NotAFrame}
 use Rattle.frame.proofs.Exactly.{frame-only}
 use Rattle.logline.proofs.Keys.{InDigits, digits-are-key}
-use Rattle.log.specs.Log.{lineOutcome, toldOf}
+use Rattle.log.specs.Log.{lineOutcome, linesOutcome}
 use Rattle.keys.specs.Keys.{NumbersAreKey, AllGiven, TextGiven}
 
 in-digits : (a : Answer) → AnswerFits a → InDigits a
@@ -25,14 +25,14 @@ numbers-are-key set other a b g h e = digits-are-key set other a b (in-digits a 
 
 -- of a state and a memory that fit the answers to lines are given
 LinesGiven : ℕ → List (List ℕ) → Type 0
-LinesGiven start ls = (st : State) (memory : List ℕ) → StateFits st → WordsFit memory → AllGiven (toldOf st start memory ls .answers)
+LinesGiven start ls = (st : State) (memory : List ℕ) → StateFits st → WordsFit memory → AllGiven (linesOutcome st start memory ls .answers)
 
 line-given : (start : ℕ) (line : List ℕ) (more : List (List ℕ)) → LinesGiven start more → LinesGiven start (line ∷ more)
-unfolding LinesGiven toldOf lineOutcome framedOutcome
+unfolding LinesGiven linesOutcome lineOutcome framedOutcome
 line-given start line more rest st memory h m = by (frameOf line) refl
   where
     by : (f : Framed) → frameOf line ≡ f
-        → Given (framedOutcome f st start memory .answer) × AllGiven (toldOf (framedOutcome f st start memory .state) start (framedOutcome f st start memory .memory) more .answers)
+        → Given (framedOutcome f st start memory .answer) × AllGiven (linesOutcome (framedOutcome f st start memory .state) start (framedOutcome f st start memory .memory) more .answers)
     by (Frame s) e =
         let v = frame-only line s e .1 .value in
         let o = fit-kept st start memory s h m v in
@@ -40,7 +40,7 @@ line-given start line more rest st memory h m = by (frameOf line) refl
     by NotAFrame e = (toNoFrame st, rest st memory h m)
 
 lines-given : (start : ℕ) (ls : List (List ℕ)) → LinesGiven start ls
-unfolding LinesGiven toldOf
+unfolding LinesGiven linesOutcome
 lines-given start [] st memory h m = tt
 lines-given start (line ∷ more) st memory h m = line-given start line more (lines-given start more) st memory h m
 

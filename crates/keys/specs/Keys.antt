@@ -7,7 +7,7 @@ use Rattle.machine.specs.State.{State}
 use Rattle.machine.specs.declared.Answer.{Answer}
 use Rattle.promises.specs.Fits.{WordsFit, StateFits, Given}
 use Rattle.logline.specs.LogLine.{logLine}
-use Rattle.log.specs.Log.{textTold}
+use Rattle.log.specs.Log.{textOutcome}
 
 -- `numbers-are-key`: of any two answers that are given, the 20 digits before the label are the whole answer, whatever the sets; the label adds nothing
 abbrev pub NumbersAreKey : Type 0
@@ -19,4 +19,4 @@ AllGiven (a ∷ more) = Given a × AllGiven more
 
 -- `text-given`: every answer to a text is one of them, from any state and memory whose numbers are below 2^32, as reset and zero words are
 abbrev pub TextGiven : Type 0
-TextGiven = (st : State) (start : ℕ) (memory text : List ℕ) → StateFits st → WordsFit memory → AllGiven (textTold st start memory text .answers)
+TextGiven = (st : State) (start : ℕ) (memory text : List ℕ) → StateFits st → WordsFit memory → AllGiven (textOutcome st start memory text .answers)

@@ -22,7 +22,7 @@ use Rattle.machine.specs.declared.Answer.{Answer}
 use Rattle.log.specs.declared.Stream.{Stream}
 use Rattle.log.proofs.Stream.{the-type}
 use Rattle.log.proofs.Stream.Laws.{the-laws}
-use Rattle.log.specs.Log.{lineOutcome, Fed, answering, fedOf}
+use Rattle.log.specs.Log.{lineOutcome, PieceOutcome, answering, pieceOutcome}
 
 -- `bytes` is field 1
 pub bytes-length : (s : Stream) {vs : List Val} → Is (row the-type) s vs → length (s .bytes) ≡ 14
@@ -48,32 +48,32 @@ module _ (bytes : List ℕ) (whole : length bytes ≡ 14) where
       take-append-le 14 (take len bytes) (x ∷ []) (omega arith) ∙ take-all 14 (take len bytes) (omega arith)
 
 -- answers before those of f
-abbrev pub afterFed : List Answer → Fed → Fed
+abbrev pub afterFed : List Answer → PieceOutcome → PieceOutcome
 afterFed done f = record { state = f .state; memory = f .memory; begun = f .begun; answers = done ++ f .answers }
 
 module _ (st : State) (start : ℕ) (memory begun : List ℕ) (x : ℕ) (xs : List ℕ) where
-  pub fed-lf : x ≡ 10 → fedOf st start memory begun (x ∷ xs)
-      ≡ answering (lineOutcome st start memory begun .answer) (fedOf (lineOutcome st start memory begun .state) start (lineOutcome st start memory begun .memory) [] xs)
-  unfolding fedOf
+  pub fed-lf : x ≡ 10 → pieceOutcome st start memory begun (x ∷ xs)
+      ≡ answering (lineOutcome st start memory begun .answer) (pieceOutcome (lineOutcome st start memory begun .state) start (lineOutcome st start memory begun .memory) [] xs)
+  unfolding pieceOutcome
   fed-lf e = simp (eq-eqb x 10 e)
 
-  pub fed-other : (x ≡ 10 → ⊥) → fedOf st start memory begun (x ∷ xs) ≡ fedOf st start memory (take 14 (begun ++ (x ∷ []))) xs
-  unfolding fedOf
+  pub fed-other : (x ≡ 10 → ⊥) → pieceOutcome st start memory begun (x ∷ xs) ≡ pieceOutcome st start memory (take 14 (begun ++ (x ∷ []))) xs
+  unfolding pieceOutcome
   fed-other e = simp (ne-eqb x 10 e)
 
 module _ (st : State) (start : ℕ) (memory begun piece : List ℕ) (done : List Answer) (i : ℕ) where
-  pub fed-none : length piece ≤ i → afterFed done (fedOf st start memory begun (drop i piece)) ≡ record { state = st; memory = memory; begun = begun; answers = done }
-  unfolding fedOf
+  pub fed-none : length piece ≤ i → afterFed done (pieceOutcome st start memory begun (drop i piece)) ≡ record { state = st; memory = memory; begun = begun; answers = done }
+  unfolding pieceOutcome
   fed-none h = rw (drop-of-length-le piece h, append-nil)
 
 few-step : (st : State) (start : ℕ) (memory begun : List ℕ) (x : ℕ) (xs : List ℕ) → Dec (x ≡ 10)
-    → length (fedOf (lineOutcome st start memory begun .state) start (lineOutcome st start memory begun .memory) [] xs .answers) ≤ length xs
-    → length (fedOf st start memory (take 14 (begun ++ (x ∷ []))) xs .answers) ≤ length xs → length (fedOf st start memory begun (x ∷ xs) .answers) ≤ length (x ∷ xs)
+    → length (pieceOutcome (lineOutcome st start memory begun .state) start (lineOutcome st start memory begun .memory) [] xs .answers) ≤ length xs
+    → length (pieceOutcome st start memory (take 14 (begun ++ (x ∷ []))) xs .answers) ≤ length xs → length (pieceOutcome st start memory begun (x ∷ xs) .answers) ≤ length (x ∷ xs)
 few-step st start memory begun x xs (yes e) h k = rw (fed-lf st start memory begun x xs e) (omega arith)
 few-step st start memory begun x xs (no e) h k = rw (fed-other st start memory begun x xs e) (omega arith)
 
-pub answers-few : (st : State) (start : ℕ) (memory begun xs : List ℕ) → length (fedOf st start memory begun xs .answers) ≤ length xs
-unfolding fedOf
+pub answers-few : (st : State) (start : ℕ) (memory begun xs : List ℕ) → length (pieceOutcome st start memory begun xs .answers) ≤ length xs
+unfolding pieceOutcome
 answers-few st start memory begun [] = zero-le
 answers-few st start memory begun (x ∷ xs) =
     let o = lineOutcome st start memory begun in

@@ -17,7 +17,7 @@ use Rattle.logline.specs.Labels.{labelOf}
 use Rattle.logline.specs.LogLine.{numbers, logBody, logLine}
 use Rattle.logline.proofs.Labels.{every}
 use Rattle.logline.proofs.Bytes.{every-number}
-use Rattle.log.specs.Log.{logOf, textTold}
+use Rattle.log.specs.Log.{logOf, textOutcome}
 use Rattle.log.specs.Results.{isShort, textRun}
 use Rattle.log.specs.Promises.{programLog}
 use Rattle.log.specs.Cut.{cutFrom, cut, numbersOf, CutNumbers, CutSame, SetApart, labelBytes, LengthsApart}
@@ -74,7 +74,7 @@ cut-numbers set (a ∷ more) = line-cut set a (logOf set more) ∙ ap (λ (l : L
 
 pub cut-same : CutSame
 unfolding programLog
-cut-same set other text = let answers = textTold resetState 0 zeroWords text .answers in cut-numbers set answers ∙ sym (cut-numbers other answers)
+cut-same set other text = let answers = textOutcome resetState 0 zeroWords text .answers in cut-numbers set answers ∙ sym (cut-numbers other answers)
 
 module _ (set other : ℕ) (st : State) (start : ℕ) (memory text out : List ℕ) where
   apart-by : (t : Bool) → isShort (length (lines text)) out ≡ t

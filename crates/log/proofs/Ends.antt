@@ -9,37 +9,37 @@ use Rattle.lines.specs.Lines.{lines, linesFrom}
 use Rattle.lines.proofs.Lines.{lines-end}
 use Rattle.logline.proofs.Stores.{wrote-then}
 use Rattle.log.specs.declared.Streaming.{Streaming}
-use Rattle.log.specs.Log.{Told, toldOf, after, textTold, Fed, fedOf}
-use Rattle.log.specs.Results.{begunOf, Feeds, Leaves}
-use Rattle.log.proofs.Told.{log-append, told-length}
+use Rattle.log.specs.Log.{TextOutcome, linesOutcome, after, textOutcome, PieceOutcome, pieceOutcome}
+use Rattle.log.specs.Results.{begunOf, PieceLogged, TextLogged}
+use Rattle.log.proofs.TextOutcome.{log-append, told-length}
 use Rattle.log.proofs.Pieces.{piece-told}
 
 module _ (st : State) (start : ℕ) (memory : List ℕ) where
   -- what an LF tells after the bytes `begun`, and what the end of the text does
-  abbrev byLf : List ℕ → Told
-  byLf begun = let f = fedOf st start memory begun (10 ∷ []) in record { state = f .state; memory = f .memory; answers = f .answers }
+  abbrev byLf : List ℕ → TextOutcome
+  byLf begun = let f = pieceOutcome st start memory begun (10 ∷ []) in record { state = f .state; memory = f .memory; answers = f .answers }
 
-  pub end-is : (begun : List ℕ) → 0 < length begun → toldOf st start memory (linesFrom begun []) ≡ byLf begun
-  unfolding toldOf fedOf
-  end-is begun h = ap (toldOf st start memory) (lines-end begun h)
+  pub end-is : (begun : List ℕ) → 0 < length begun → linesOutcome st start memory (linesFrom begun []) ≡ byLf begun
+  unfolding linesOutcome pieceOutcome
+  end-is begun h = ap (linesOutcome st start memory) (lines-end begun h)
 
   -- what a text leaves fed, and what its end then tells
-  abbrev fed : List ℕ → Fed
-  fed text = fedOf st start memory [] text
+  abbrev fed : List ℕ → PieceOutcome
+  fed text = pieceOutcome st start memory [] text
 
-  abbrev pub ended : List ℕ → Told
-  ended text = toldOf (fed text .state) start (fed text .memory) (linesFrom (fed text .begun) [])
+  abbrev pub ended : List ℕ → TextOutcome
+  ended text = linesOutcome (fed text .state) start (fed text .memory) (linesFrom (fed text .begun) [])
 
-  pub text-fed : (text : List ℕ) → textTold st start memory text ≡ after (fed text .answers) (ended text)
-  text-fed text = ap (λ (l : List ℕ). toldOf st start memory (linesFrom [] l)) (sym (append-nil text)) ∙ piece-told st start memory [] text []
+  pub text-fed : (text : List ℕ) → textOutcome st start memory text ≡ after (fed text .answers) (ended text)
+  text-fed text = ap (λ (l : List ℕ). linesOutcome st start memory (linesFrom [] l)) (sym (append-nil text)) ∙ piece-told st start memory [] text []
 
   pub fed-answers : (text : List ℕ) → length (fed text .answers) + length (ended text .answers) ≡ length (lines text)
-  fed-answers text = sym (length-append (fed text .answers) (ended text .answers)) ∙ ap (λ (t : Told). length (t .answers)) (sym (text-fed text)) ∙ told-length st start memory (lines text)
+  fed-answers text = sym (length-append (fed text .answers) (ended text .answers)) ∙ ap (λ (t : TextOutcome). length (t .answers)) (sym (text-fed text)) ∙ told-length st start memory (lines text)
 
 -- a piece, then the end
-pub then-ends : (set start : ℕ) {f : Fed} {r q : Streaming} {memory′ memory″ out out′ out″ : List ℕ} {at : ℕ} → Feeds set f r memory′ out at out′
-    → Leaves set (toldOf (stateOf (r .stream .controller)) start memory′ (linesFrom (begunOf (r .stream)) [])) q memory″ out′ (r .next) out″
-    → Leaves set (after (f .answers) (toldOf (f .state) start (f .memory) (linesFrom (f .begun) []))) q memory″ out at out″
+pub then-ends : (set start : ℕ) {f : PieceOutcome} {r q : Streaming} {memory′ memory″ out out′ out″ : List ℕ} {at : ℕ} → PieceLogged set f r memory′ out at out′
+    → TextLogged set (linesOutcome (stateOf (r .stream .controller)) start memory′ (linesFrom (begunOf (r .stream)) [])) q memory″ out′ (r .next) out″
+    → TextLogged set (after (f .answers) (linesOutcome (f .state) start (f .memory) (linesFrom (f .begun) []))) q memory″ out at out″
 then-ends set start w e =
     let l = rw (w .state, w .memory, w .begun) at e in
     record { state = l .state; memory = l .memory; log = rw log-append (wrote-then (w .log) (l .log)) }

@@ -1,4 +1,4 @@
-pub mod Told
+pub mod TextOutcome
 pub mod Room
 pub mod Carried
 pub mod Within

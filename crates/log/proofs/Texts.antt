@@ -13,9 +13,9 @@ use Rattle.lines.proofs.Lines.{lines-lf, lines-other, lines-stop}
 use Rattle.frame.specs.declared.Framed.{Framed}
 use Rattle.frame.specs.declared.Framed.the-variants.{Frame, NotAFrame}
 use Rattle.frame.specs.Frame.{frameOf, framedOutcome}
-use Rattle.log.specs.Log.{lineOutcome, logOf, Told, toldOf, after}
-use Rattle.log.specs.Promises.{OneAnswerEach, TextsJoined, framed, stepsIn, toFrame, toFrames, Runs, TextRuns}
-use Rattle.log.proofs.Told.{log-append, told-length}
+use Rattle.log.specs.Log.{lineOutcome, logOf, TextOutcome, linesOutcome, after}
+use Rattle.log.specs.Promises.{OneAnswerEach, TextsJoined, framed, stepsIn, toFrame, toFrames, TextIsRun, TextRuns}
+use Rattle.log.proofs.TextOutcome.{log-append, told-length}
 
 pub one-answer-each : OneAnswerEach
 one-answer-each st start memory text = told-length st start memory (lines text)
@@ -34,35 +34,35 @@ lines-join begun [] b = rw (lines-lf begun 10 b refl, lines-lf begun 10 [] refl,
 lines-join begun (x ∷ a) b = join-step begun x a b (ℕ-discrete x 10) (lines-join [] a b) (lines-join (begun ++ (x ∷ [])) a b)
 
 told-append : (st : State) (start : ℕ) (memory : List ℕ) (xs ys : List (List ℕ))
-    → toldOf st start memory (xs ++ ys) ≡ after (toldOf st start memory xs .answers) (toldOf (toldOf st start memory xs .state) start (toldOf st start memory xs .memory) ys)
-unfolding toldOf
+    → linesOutcome st start memory (xs ++ ys) ≡ after (linesOutcome st start memory xs .answers) (linesOutcome (linesOutcome st start memory xs .state) start (linesOutcome st start memory xs .memory) ys)
+unfolding linesOutcome
 told-append st start memory [] ys = refl
 told-append st start memory (line ∷ xs) ys =
     let o = lineOutcome st start memory line in
-    ap (λ (t : Told). after (o .answer ∷ []) t) (told-append (o .state) start (o .memory) xs ys)
+    ap (λ (t : TextOutcome). after (o .answer ∷ []) t) (told-append (o .state) start (o .memory) xs ys)
 
 pub texts-joined : TextsJoined
 texts-joined set st start memory a b first e =
     let first-lines = lines (a ++ (10 ∷ [])) in
-    let whole = ap (toldOf st start memory) (lines-join [] a b) ∙ told-append st start memory first-lines (lines b) in
+    let whole = ap (linesOutcome st start memory) (lines-join [] a b) ∙ told-append st start memory first-lines (lines b) in
     rw e
     (record {
-      state = ap (λ (t : Told). t .state) whole;
-      memory = ap (λ (t : Told). t .memory) whole;
-      log = ap (λ (t : Told). logOf set (t .answers)) whole ∙ log-append set (toldOf st start memory first-lines .answers) _;
+      state = ap (λ (t : TextOutcome). t .state) whole;
+      memory = ap (λ (t : TextOutcome). t .memory) whole;
+      log = ap (λ (t : TextOutcome). logOf set (t .answers)) whole ∙ log-append set (linesOutcome st start memory first-lines .answers) _;
     })
 
 -- ---- as a run
 
 module _ (st : State) (start : ℕ) (memory : List ℕ) (ls : List (List ℕ)) where
   -- what a line's outcome leaves to the others
-  abbrev rest : Framed → Told
-  rest f = toldOf (framedOutcome f st start memory .state) start (framedOutcome f st start memory .memory) ls
+  abbrev rest : Framed → TextOutcome
+  rest f = linesOutcome (framedOutcome f st start memory .state) start (framedOutcome f st start memory .memory) ls
 
   abbrev ran : Framed → RunOutcome
   ran f = run st start memory (framed f ++ stepsIn ls)
 
-  runs-step : (f : Framed) → Runs ls (rest f) (run (framedOutcome f st start memory .state) start (framedOutcome f st start memory .memory) (stepsIn ls))
+  runs-step : (f : Framed) → TextIsRun ls (rest f) (run (framedOutcome f st start memory .state) start (framedOutcome f st start memory .memory) (stepsIn ls))
       → (rest f .state ≡ ran f .state)
       × (rest f .memory ≡ ran f .memory)
       × (toFrame f (framedOutcome f st start memory .answer) ++ toFrames ls (rest f .answers) ≡ answers (ran f .events))
@@ -71,7 +71,7 @@ module _ (st : State) (start : ℕ) (memory : List ℕ) (ls : List (List ℕ)) w
   runs-step NotAFrame h = (h .state, h .memory, h .answers)
 
 pub text-runs : TextRuns
-unfolding toldOf stepsIn toFrames lineOutcome
+unfolding linesOutcome stepsIn toFrames lineOutcome
 text-runs st start memory [] = record { state = refl; memory = refl; answers = refl }
 text-runs st start memory (line ∷ ls) =
     let o = lineOutcome st start memory line in

@@ -26,8 +26,8 @@ use Rattle.frame.specs.declared.Framed.{Framed}
 use Rattle.frame.specs.declared.Framed.the-variants.{Frame, NotAFrame}
 use Rattle.frame.specs.Frame.{isFrame, frameOf, framedOutcome}
 use Rattle.log.specs.declared.Turn.{Turn}
-use Rattle.log.specs.Log.{lineOutcome, answering, Fed, fedOf}
-use Rattle.log.specs.Results.{frameIn, Takes}
+use Rattle.log.specs.Log.{lineOutcome, answering, PieceOutcome, pieceOutcome}
+use Rattle.log.specs.Results.{frameIn, TurnPromised}
 use Rattle.log.proofs.Carried.{fed-lf, fed-other, afterFed}
 use Rattle.log.proofs.Pieces.{frame-clip, take-clip}
 
@@ -35,29 +35,29 @@ use Rattle.log.proofs.Pieces.{frame-clip, take-clip}
 
 module _ (st : State) (start : ℕ) (memory : List ℕ) where
   -- the answer to a line, then the rest
-  abbrev answered : List ℕ → List ℕ → Fed
+  abbrev answered : List ℕ → List ℕ → PieceOutcome
   answered line rest =
       let o = lineOutcome st start memory line in
-      answering (o .answer) (fedOf (o .state) start (o .memory) [] rest)
+      answering (o .answer) (pieceOutcome (o .state) start (o .memory) [] rest)
 
   outcome-clip : (l : List ℕ) → lineOutcome st start memory (take 14 l) ≡ lineOutcome st start memory l
   unfolding lineOutcome
   outcome-clip l = rw (frame-clip l (decLe (length l) 14))
 
   line-by : (begun : List ℕ) (x : ℕ) (xs : List ℕ) → Dec (x ≡ 10)
-      → (untilLf xs < length xs → fedOf st start memory (take 14 (begun ++ (x ∷ []))) xs ≡ answered ((begun ++ (x ∷ [])) ++ take (untilLf xs) xs) (drop (suc (untilLf xs)) xs))
+      → (untilLf xs < length xs → pieceOutcome st start memory (take 14 (begun ++ (x ∷ []))) xs ≡ answered ((begun ++ (x ∷ [])) ++ take (untilLf xs) xs) (drop (suc (untilLf xs)) xs))
       → untilLf (x ∷ xs) < length (x ∷ xs)
-      → fedOf st start memory (take 14 begun) (x ∷ xs) ≡ answered (begun ++ take (untilLf (x ∷ xs)) (x ∷ xs)) (drop (suc (untilLf (x ∷ xs))) (x ∷ xs))
+      → pieceOutcome st start memory (take 14 begun) (x ∷ xs) ≡ answered (begun ++ take (untilLf (x ∷ xs)) (x ∷ xs)) (drop (suc (untilLf (x ∷ xs))) (x ∷ xs))
   line-by begun x xs (yes e) ih h = rw (until-lf x xs e, append-nil begun) (fed-lf st start memory (take 14 begun) x xs e ∙ rw (outcome-clip begun))
   line-by begun x xs (no e) ih h =
       let u = until-more x xs e in
       rw (u, ← append-assoc begun (x ∷ []) (take (untilLf xs) xs)) (fed-other st start memory (take 14 begun) x xs e ∙ rw (take-clip 14 begun (x ∷ [])) (ih (omega (arith, u))))
 
-  line-from : (begun xs : List ℕ) → untilLf xs < length xs → fedOf st start memory (take 14 begun) xs ≡ answered (begun ++ take (untilLf xs) xs) (drop (suc (untilLf xs)) xs)
+  line-from : (begun xs : List ℕ) → untilLf xs < length xs → pieceOutcome st start memory (take 14 begun) xs ≡ answered (begun ++ take (untilLf xs) xs) (drop (suc (untilLf xs)) xs)
   line-from begun [] h = absurd (omega arith)
   line-from begun (x ∷ xs) h = line-by begun x xs (ℕ-discrete x 10) (line-from (begun ++ (x ∷ [])) xs) h
 
-  pub whole-line : (xs : List ℕ) → untilLf xs < length xs → fedOf st start memory [] xs ≡ answered (take (untilLf xs) xs) (drop (suc (untilLf xs)) xs)
+  pub whole-line : (xs : List ℕ) → untilLf xs < length xs → pieceOutcome st start memory [] xs ≡ answered (take (untilLf xs) xs) (drop (suc (untilLf xs)) xs)
   whole-line xs h = line-from [] xs h
 
 -- ---- a frame
@@ -121,7 +121,7 @@ module _ (xs : List ℕ) where
 
 module _ (piece : List ℕ) (at : ℕ) (carried : List ℕ) (whole : length carried ≡ 14) where
   pub line-takes : (n : ℕ) (f : Framed) → untilLf (drop at piece) ≡ n → at + n < length piece → f ≡ frameOf (take n (drop at piece))
-      → Takes [] piece at (record { next = at + n + 1; bytes = carried; len = 0; ended = true; framed = f })
+      → TurnPromised [] piece at (record { next = at + n + 1; bytes = carried; len = 0; ended = true; framed = f })
   unfolding lineOutcome
   line-takes n f u h e =
       let past : at + suc n ≡ at + n + 1 = omega arith in
@@ -135,7 +135,7 @@ module _ (piece : List ℕ) (at : ℕ) (carried : List ℕ) (whole : length carr
       }
 
   pub part-takes : (line : List ℕ) (f : Framed) → line ≡ lineAt piece at → at ≤ length piece → at + length line < length piece → f ≡ frameOf line
-      → Takes [] piece at (record { next = at + length line + 1; bytes = carried; len = 0; ended = true; framed = f })
+      → TurnPromised [] piece at (record { next = at + length line + 1; bytes = carried; len = 0; ended = true; framed = f })
   unfolding lineAt lineEnd
   part-takes line f l h k e =
       let n : untilLf (drop at piece) ≡ length line =
@@ -144,7 +144,7 @@ module _ (piece : List ℕ) (at : ℕ) (carried : List ℕ) (whole : length carr
 
   module _ (len : ℕ) (h : at < length piece) where
     pub lf-takes : (f : Framed) → getD piece at 0 ≡ 10 → f ≡ frameOf (take len carried)
-        → Takes (take len carried) piece at (record { next = at + 1; bytes = carried; len = 0; ended = true; framed = f })
+        → TurnPromised (take len carried) piece at (record { next = at + 1; bytes = carried; len = 0; ended = true; framed = f })
     unfolding lineOutcome
     lf-takes f x e =
         record {
@@ -157,7 +157,7 @@ module _ (piece : List ℕ) (at : ℕ) (carried : List ℕ) (whole : length carr
 
     pub byte-takes : (bytes : List ℕ) (more : ℕ) → (getD piece at 0 ≡ 10 → ⊥) → length bytes ≡ 14 → more ≤ 14
         → take 14 (take len carried ++ (getD piece at 0 ∷ [])) ≡ take more bytes
-        → Takes (take len carried) piece at (record { next = at + 1; bytes = bytes; len = more; ended = false; framed = NotAFrame })
+        → TurnPromised (take len carried) piece at (record { next = at + 1; bytes = bytes; len = more; ended = false; framed = NotAFrame })
     byte-takes bytes more x n few e =
         record {
           above = omega arith;
@@ -167,18 +167,18 @@ module _ (piece : List ℕ) (at : ℕ) (carried : List ℕ) (whole : length carr
           fed = λ st start memory. rw (add-one, ← e) (rw (drop-cons piece at 0 h) (fed-other st start memory (take len carried) (getD piece at 0) (drop (suc at) piece) x));
         }
 
-module _ {begun piece : List ℕ} {at : ℕ} {t : Turn} (T : Takes begun piece at t) (st : State) (start : ℕ) (memory : List ℕ) (done : List Answer) where
+module _ {begun piece : List ℕ} {at : ℕ} {t : Turn} (T : TurnPromised begun piece at t) (st : State) (start : ℕ) (memory : List ℕ) (done : List Answer) where
   -- what is fed after this turn, from a state and a memory
-  abbrev rest : State → List ℕ → Fed
-  rest st′ memory′ = fedOf st′ start memory′ (take (t .len) (t .bytes)) (drop (t .next) piece)
+  abbrev rest : State → List ℕ → PieceOutcome
+  rest st′ memory′ = pieceOutcome st′ start memory′ (take (t .len) (t .bytes)) (drop (t .next) piece)
 
   pub turn-ended : t .ended ≡ true → (o : Outcome) → o ≡ framedOutcome (t .framed) st start memory
-      → afterFed done (fedOf st start memory begun (drop at piece)) ≡ afterFed (done ++ (o .answer ∷ [])) (rest (o .state) (o .memory))
+      → afterFed done (pieceOutcome st start memory begun (drop at piece)) ≡ afterFed (done ++ (o .answer ∷ [])) (rest (o .state) (o .memory))
   turn-ended e o q = rw (T .fed st start memory, e, ← q, append-assoc)
 
-  pub turn-on : t .ended ≡ false → afterFed done (fedOf st start memory begun (drop at piece)) ≡ afterFed done (rest st memory)
+  pub turn-on : t .ended ≡ false → afterFed done (pieceOutcome st start memory begun (drop at piece)) ≡ afterFed done (rest st memory)
   turn-on e = rw (T .fed st start memory, e)
 
 -- so there is an answer more
-pub more-answers : (f : Fed) (done : List Answer) (a : Answer) (g : Fed) → f ≡ afterFed (done ++ (a ∷ [])) g → length done < length (f .answers)
+pub more-answers : (f : PieceOutcome) (done : List Answer) (a : Answer) (g : PieceOutcome) → f ≡ afterFed (done ++ (a ∷ [])) g → length done < length (f .answers)
 more-answers f done a g e = rw e (omega (arith, length-append (done ++ (a ∷ [])) (g .answers), length-append done (a ∷ [])))

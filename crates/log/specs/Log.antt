@@ -23,26 +23,26 @@ logOf set (a ∷ more) = logLine set a ++ logOf set more
 -- ---- a text
 
 -- what lines leave, and their answers, one for each line
-pub record Told : Type 0 where
+pub record TextOutcome : Type 0 where
   pub state : State
   pub memory : List ℕ
   pub answers : List Answer
 
 -- a line is answered from what the lines before it left
-unfoldable pub toldOf : State → ℕ → List ℕ → List (List ℕ) → Told
-toldOf st start memory [] = record { state = st; memory = memory; answers = [] }
-toldOf st start memory (line ∷ more) =
+unfoldable pub linesOutcome : State → ℕ → List ℕ → List (List ℕ) → TextOutcome
+linesOutcome st start memory [] = record { state = st; memory = memory; answers = [] }
+linesOutcome st start memory (line ∷ more) =
     let o = lineOutcome st start memory line in
-    let t = toldOf (o .state) start (o .memory) more in
+    let t = linesOutcome (o .state) start (o .memory) more in
     record { state = t .state; memory = t .memory; answers = o .answer ∷ t .answers }
 
 -- answers, then what t tells
-abbrev pub after : List Answer → Told → Told
+abbrev pub after : List Answer → TextOutcome → TextOutcome
 after answers t = record { state = t .state; memory = t .memory; answers = answers ++ t .answers }
 
 -- a text is told line by line
-abbrev pub textTold : State → ℕ → List ℕ → List ℕ → Told
-textTold st start memory text = toldOf st start memory (lines text)
+abbrev pub textOutcome : State → ℕ → List ℕ → List ℕ → TextOutcome
+textOutcome st start memory text = linesOutcome st start memory (lines text)
 
 -- ---- a text in pieces
 
@@ -51,18 +51,18 @@ abbrev pub carried : ℕ
 carried = 14
 
 -- what a piece leaves: state, memory, the carried bytes of the line that has not ended, and the answers to the lines that have
-pub record Fed : Type 0 where
+pub record PieceOutcome : Type 0 where
   pub state : State
   pub memory : List ℕ
   pub begun : List ℕ
   pub answers : List Answer
 
-abbrev pub answering : Answer → Fed → Fed
+abbrev pub answering : Answer → PieceOutcome → PieceOutcome
 answering a f = record { state = f .state; memory = f .memory; begun = f .begun; answers = a ∷ f .answers }
 
 -- byte by byte, after the bytes `begun`: an LF ends the line
-unfoldable pub fedOf : State → ℕ → List ℕ → List ℕ → List ℕ → Fed
-fedOf st start memory begun [] = record { state = st; memory = memory; begun = begun; answers = [] }
-fedOf st start memory begun (x ∷ xs) =
+unfoldable pub pieceOutcome : State → ℕ → List ℕ → List ℕ → List ℕ → PieceOutcome
+pieceOutcome st start memory begun [] = record { state = st; memory = memory; begun = begun; answers = [] }
+pieceOutcome st start memory begun (x ∷ xs) =
     let o = lineOutcome st start memory begun in
-    cond (eqb x lf) (answering (o .answer) (fedOf (o .state) start (o .memory) [] xs)) (fedOf st start memory (take carried (begun ++ (x ∷ []))) xs)
+    cond (eqb x lf) (answering (o .answer) (pieceOutcome (o .state) start (o .memory) [] xs)) (pieceOutcome st start memory (take carried (begun ++ (x ∷ []))) xs)

@@ -16,13 +16,13 @@ use Rattle.frame.specs.declared.Framed.the-variants.{Frame, NotAFrame}
 use Rattle.frame.specs.Frame.{frameOf}
 use Rattle.logline.specs.Labels.{englishSet}
 use Rattle.logline.specs.LogLine.{logBody}
-use Rattle.log.specs.Log.{logOf, Told, toldOf, after, textTold, fedOf}
+use Rattle.log.specs.Log.{logOf, TextOutcome, linesOutcome, after, textOutcome, pieceOutcome}
 
 -- ---- one log line for each line
 
 -- `one-answer-each`: a text has one answer for each line
 abbrev pub OneAnswerEach : Type 0
-OneAnswerEach = (st : State) (start : ℕ) (memory text : List ℕ) → length (textTold st start memory text .answers) ≡ length (lines text)
+OneAnswerEach = (st : State) (start : ℕ) (memory text : List ℕ) → length (textOutcome st start memory text .answers) ≡ length (lines text)
 
 -- `one-line-each`: the log, read as a text, has one line for each answer, and that line is the answer's
 abbrev pub OneLineEach : Type 0
@@ -35,15 +35,15 @@ abbrev pub LogAppend : Type 0
 LogAppend = (set : ℕ) (xs ys : List Answer) → logOf set (xs ++ ys) ≡ logOf set xs ++ logOf set ys
 
 -- `texts-joined`: the log of two texts joined after an LF is that of the first, then that of the second from the state the first leaves
-pub record Joined (set : ℕ) (whole first second : Told) : Type 0 where
+pub record LogsJoined (set : ℕ) (whole first second : TextOutcome) : Type 0 where
   pub state : whole .state ≡ second .state
   pub memory : whole .memory ≡ second .memory
   pub log : logOf set (whole .answers) ≡ logOf set (first .answers) ++ logOf set (second .answers)
 
 abbrev pub TextsJoined : Type 0
 TextsJoined =
-    (set : ℕ) (st : State) (start : ℕ) (memory a b : List ℕ) (first : Told) → first ≡ textTold st start memory (a ++ (lf ∷ []))
-    → Joined set (textTold st start memory (a ++ (lf ∷ []) ++ b)) first (textTold (first .state) start (first .memory) b)
+    (set : ℕ) (st : State) (start : ℕ) (memory a b : List ℕ) (first : TextOutcome) → first ≡ textOutcome st start memory (a ++ (lf ∷ []))
+    → LogsJoined set (textOutcome st start memory (a ++ (lf ∷ []) ++ b)) first (textOutcome (first .state) start (first .memory) b)
 
 -- pieces one after the other
 abbrev pub joined : List (List ℕ) → List ℕ
@@ -51,15 +51,15 @@ joined [] = []
 joined (p ∷ more) = p ++ joined more
 
 -- what pieces tell, after the bytes `begun`: each is fed, and at the end what has begun is told as a text
-unfoldable pub piecesTold : State → ℕ → List ℕ → List ℕ → List (List ℕ) → Told
-piecesTold st start memory begun [] = textTold st start memory begun
-piecesTold st start memory begun (p ∷ more) =
-    let f = fedOf st start memory begun p in
-    after (f .answers) (piecesTold (f .state) start (f .memory) (f .begun) more)
+unfoldable pub piecesOutcome : State → ℕ → List ℕ → List ℕ → List (List ℕ) → TextOutcome
+piecesOutcome st start memory begun [] = textOutcome st start memory begun
+piecesOutcome st start memory begun (p ∷ more) =
+    let f = pieceOutcome st start memory begun p in
+    after (f .answers) (piecesOutcome (f .state) start (f .memory) (f .begun) more)
 
 -- `pieces-joined`: wherever the pieces end, they tell what the whole text tells, so by `log-append` their logs joined are its log
 abbrev pub PiecesJoined : Type 0
-PiecesJoined = (st : State) (start : ℕ) (memory : List ℕ) (pieces : List (List ℕ)) → piecesTold st start memory [] pieces ≡ textTold st start memory (joined pieces)
+PiecesJoined = (st : State) (start : ℕ) (memory : List ℕ) (pieces : List (List ℕ)) → piecesOutcome st start memory [] pieces ≡ textOutcome st start memory (joined pieces)
 
 -- ---- a text is a run of its steps
 
@@ -83,19 +83,19 @@ toFrames (line ∷ more) [] = []
 toFrames (line ∷ more) (a ∷ answers) = toFrame (frameOf line) a ++ toFrames more answers
 
 -- `text-runs`: what a text leaves, and its steps' answers, are those of the machine's run over its steps: so every theorem of runs is one of texts
-pub record Runs (ls : List (List ℕ)) (t : Told) (r : RunOutcome) : Type 0 where
+pub record TextIsRun (ls : List (List ℕ)) (t : TextOutcome) (r : RunOutcome) : Type 0 where
   pub state : t .state ≡ r .state
   pub memory : t .memory ≡ r .memory
   pub answers : toFrames ls (t .answers) ≡ answers (r .events)
 
 abbrev pub TextRuns : Type 0
-TextRuns = (st : State) (start : ℕ) (memory : List ℕ) (ls : List (List ℕ)) → Runs ls (toldOf st start memory ls) (run st start memory (stepsIn ls))
+TextRuns = (st : State) (start : ℕ) (memory : List ℕ) (ls : List (List ℕ)) → TextIsRun ls (linesOutcome st start memory ls) (run st start memory (stepsIn ls))
 
 -- ---- the worked frames
 
 -- the log of a text under a set as the log program has it: it begins at reset, over `zeroWords` from address 0 on
 unfoldable pub programLog : ℕ → List ℕ → List ℕ
-programLog set text = logOf set (textTold resetState 0 zeroWords text .answers)
+programLog set text = logOf set (textOutcome resetState 0 zeroWords text .answers)
 
 abbrev pub workedFrames : List ℕ
 workedFrames = bytes "03101000000A5\n0034F00000000\n0010100000000\n0020F00000000\nxyz"
@@ -139,7 +139,7 @@ echo (line ∷ more) = line ++ (lf ∷ []) ++ echo more
 
 abbrev pub echoing : List (List ℕ) → List ℕ
 echoing [] = []
-echoing (line ∷ more) = logOf englishSet (toldOf resetState 0 zeroWords (line ∷ []) .answers) ++ echo more
+echoing (line ∷ more) = logOf englishSet (linesOutcome resetState 0 zeroWords (line ∷ []) .answers) ++ echo more
 
 -- `echoing-fails`: it fails the worked frames
 abbrev pub EchoingFails : Type 0

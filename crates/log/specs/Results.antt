@@ -22,7 +22,7 @@ use Rattle.log.specs.declared.Stream.{Stream}
 use Rattle.log.specs.declared.Streamed.{Streamed}
 use Rattle.log.specs.declared.Streaming.{Streaming}
 use Rattle.log.specs.declared.Turn.{Turn}
-use Rattle.log.specs.Log.{Told, Fed, logOf, textTold, answering, fedOf}
+use Rattle.log.specs.Log.{TextOutcome, PieceOutcome, logOf, textOutcome, answering, pieceOutcome}
 
 -- the output is too short for so many log lines of the greatest length
 unfoldable pub isShort : ℕ → List ℕ → Bool
@@ -49,7 +49,7 @@ pub record TextRun : Type 0 where
 -- too little room is an answer of its own: nothing is done, and no byte is written
 unfoldable pub textRun : ℕ → State → ℕ → List ℕ → List ℕ → List ℕ → TextRun
 textRun set st start memory text out =
-    let t = textTold st start memory text in
+    let t = textOutcome st start memory text in
     let log = logOf set (t .answers) in
     cond (isShort (length (lines text)) out)
     (record { state = st; memory = memory; out = out; log = NoRoom })
@@ -76,7 +76,7 @@ pub record Piece : Type 0 where
 -- A piece may end a line at each byte, so it wants room for as many.
 unfoldable pub pieceOf : ℕ → State → ℕ → List ℕ → List ℕ → List ℕ → List ℕ → Piece
 pieceOf set st start memory begun piece out =
-    let f = fedOf st start memory begun piece in
+    let f = pieceOutcome st start memory begun piece in
     let log = logOf set (f .answers) in
     cond (isShort (length piece) out)
     (record { state = st; memory = memory; begun = begun; out = out; log = NoRoom })
@@ -94,27 +94,27 @@ unfoldable pub frameIn : List ℕ → Framed
 frameIn bytes = cond (eqb (getD bytes 13 0) lf) (frameOf (take 13 bytes)) NotAFrame
 
 -- what is fed from a turn on: the answer to a line that has ended, then the rest of the piece after what is carried
-abbrev pub fedPast : Turn → State → ℕ → List ℕ → List ℕ → Fed
+abbrev pub fedPast : Turn → State → ℕ → List ℕ → List ℕ → PieceOutcome
 fedPast t st start memory rest =
     let o = framedOutcome (t .framed) st start memory in
     let begun = take (t .len) (t .bytes) in
-    cond (t .ended) (answering (o .answer) (fedOf (o .state) start (o .memory) begun rest)) (fedOf st start memory begun rest)
+    cond (t .ended) (answering (o .answer) (pieceOutcome (o .state) start (o .memory) begun rest)) (pieceOutcome st start memory begun rest)
 
 -- a turn, at a place of a piece, after the bytes `begun`
-pub record Takes (begun piece : List ℕ) (at : ℕ) (t : Turn) : Type 0 where
+pub record TurnPromised (begun piece : List ℕ) (at : ℕ) (t : Turn) : Type 0 where
   pub above : at < t .next
   pub within : t .next ≤ length piece
   pub few : t .len ≤ 14
   pub whole : length (t .bytes) ≡ 14
-  pub fed : (st : State) (start : ℕ) (memory : List ℕ) → fedOf st start memory begun (drop at piece) ≡ fedPast t st start memory (drop (t .next) piece)
+  pub fed : (st : State) (start : ℕ) (memory : List ℕ) → pieceOutcome st start memory begun (drop at piece) ≡ fedPast t st start memory (drop (t .next) piece)
 
-pub record Feeds (set : ℕ) (f : Fed) (r : Streaming) (memory′ out : List ℕ) (at : ℕ) (out′ : List ℕ) : Type 0 where
+pub record PieceLogged (set : ℕ) (f : PieceOutcome) (r : Streaming) (memory′ out : List ℕ) (at : ℕ) (out′ : List ℕ) : Type 0 where
   pub state : stateOf (r .stream .controller) ≡ f .state
   pub memory : memory′ ≡ f .memory
   pub begun : begunOf (r .stream) ≡ f .begun
   pub log : Wrote out at (logOf set (f .answers)) (r .next) out′
 
-pub record Leaves (set : ℕ) (t : Told) (r : Streaming) (memory′ out : List ℕ) (at : ℕ) (out′ : List ℕ) : Type 0 where
+pub record TextLogged (set : ℕ) (t : TextOutcome) (r : Streaming) (memory′ out : List ℕ) (at : ℕ) (out′ : List ℕ) : Type 0 where
   pub state : stateOf (r .stream .controller) ≡ t .state
   pub memory : memory′ ≡ t .memory
   pub log : Wrote out at (logOf set (t .answers)) (r .next) out′

@@ -11,8 +11,8 @@ ghost use Rattle.step.specs.Outcome.{outcomeOf};
 ghost use Rattle.lines.specs.Lines.{linesFrom};
 ghost use Rattle.frame.specs.Frame.{framedOutcome};
 ghost use Rattle.logline.specs.LogLine.{lineRoom};
-ghost use Rattle.log.specs.Log.{lineOutcome, toldOf, fedOf};
-ghost use Rattle.log.specs.Results.{RunPromised, Leaves, begunOf, frameIn, Takes, Feeds, FeedPromised};
+ghost use Rattle.log.specs.Log.{lineOutcome, linesOutcome, pieceOutcome};
+ghost use Rattle.log.specs.Results.{RunPromised, TextLogged, begunOf, frameIn, TurnPromised, PieceLogged, FeedPromised};
 use controller::Controller;
 use frame::Framed;
 use logline::LINE_ROOM;
@@ -139,7 +139,7 @@ fn line_taken(bytes: [u8; 14], next: usize, framed: Framed) -> Turn
 fn byte_taken(piece: &[u8], at: usize, carried: [u8; 14], len: usize) -> Turn
     requires { ⌜ at < length (now piece) ⌝ }
     requires { ⌜ len ≤ 14 ⌝ }
-    ensures { λ r. ⌜ Takes (take len carried) (now (piece .entry)) at r ⌝ }
+    ensures { λ r. ⌜ TurnPromised (take len carried) (now (piece .entry)) at r ⌝ }
 {
     let x = piece[at];
     if x == b'\n' {
@@ -178,7 +178,7 @@ fn frame_in(piece: &[u8], at: usize) -> Framed
 fn taken(piece: &[u8], at: usize, carried: [u8; 14], len: usize) -> Turn
     requires { ⌜ at < length (now piece) ⌝ }
     requires { ⌜ len ≤ 14 ⌝ }
-    ensures { λ r. ⌜ Takes (take len carried) (now (piece .entry)) at r ⌝ }
+    ensures { λ r. ⌜ TurnPromised (take len carried) (now (piece .entry)) at r ⌝ }
 {
     if len != 0 {
         return byte_taken(piece, at, carried, len);
@@ -204,8 +204,8 @@ fn feed_bytes(
     at: usize,
     set: u32,
 ) -> Streaming
-    requires { ⌜ at + lineRoom * length (fedOf (stateOf (s .controller)) start (now memory) (begunOf s) (now piece) .answers) ≤ length (now out) ⌝ }
-    ensures { λ r. ⌜ Feeds set (fedOf (stateOf (s .controller)) start (now (memory .entry)) (begunOf s) (now (piece .entry))) r (now (memory .exit)) (now (out .entry)) at (now (out .exit)) ⌝ }
+    requires { ⌜ at + lineRoom * length (pieceOutcome (stateOf (s .controller)) start (now memory) (begunOf s) (now piece) .answers) ≤ length (now out) ⌝ }
+    ensures { λ r. ⌜ PieceLogged set (pieceOutcome (stateOf (s .controller)) start (now (memory .entry)) (begunOf s) (now (piece .entry))) r (now (memory .exit)) (now (out .entry)) at (now (out .exit)) ⌝ }
 {
     let mut c = s.controller;
     let mut bytes = s.bytes;
@@ -276,8 +276,8 @@ fn end_line(
     at: usize,
     set: u32,
 ) -> Streaming
-    requires { ⌜ at + lineRoom * length (toldOf (stateOf (s .controller)) start (now memory) (linesFrom (begunOf s) []) .answers) ≤ length (now out) ⌝ }
-    ensures { λ r. ⌜ Leaves set (toldOf (stateOf (s .controller)) start (now (memory .entry)) (linesFrom (begunOf s) [])) r (now (memory .exit)) (now (out .entry)) at (now (out .exit)) ⌝ }
+    requires { ⌜ at + lineRoom * length (linesOutcome (stateOf (s .controller)) start (now memory) (linesFrom (begunOf s) []) .answers) ≤ length (now out) ⌝ }
+    ensures { λ r. ⌜ TextLogged set (linesOutcome (stateOf (s .controller)) start (now (memory .entry)) (linesFrom (begunOf s) [])) r (now (memory .exit)) (now (out .entry)) at (now (out .exit)) ⌝ }
 {
     if s.len == 0 {
         return Streaming {

@@ -21,14 +21,14 @@ pub record Example : Type 0 where
   pub places : List ℕ
   pub words : List ℕ
 
-pub record Seen : Type 0 where
+pub record Observed : Type 0 where
   pub answers : List Answer
   pub words : List ℕ
 
-abbrev pub expected : Example → Seen
+abbrev pub expected : Example → Observed
 expected e = record { answers = e .answers; words = e .words }
 
-abbrev pub got : Run → Example → Seen
+abbrev pub got : Run → Example → Observed
 got model e =
     let r = model (e .state) (e .start) (e .memory) (e .steps) in
     record { answers = answers (r .events); words = map (λ k. getD (r .memory) k 0) (e .places) }

@@ -5,7 +5,7 @@ use Rattle.machine.specs.declared.Step.{Step}
 use Rattle.machine.specs.declared.Answer.{Answer}
 use Rattle.controller.specs.declared.Controller.{Controller}
 use Rattle.step.specs.declared.Stepped.{Stepped}
-use Rattle.step.specs.Unique.{Promised, Same}
+use Rattle.step.specs.Unique.{StepPromised, SameStep}
 
 -- the controller left behind the reference and the answer, as the by-value step gives them
 abbrev pub steppedTo : Controller → Answer → Stepped
@@ -16,4 +16,4 @@ steppedTo left a = record { controller = left; answer = a }
 abbrev pub InPlaceEqual : Type 0
 InPlaceEqual =
     (c : Controller) (start : ℕ) (memory : List ℕ) (s : Step) (r : Stepped) (after : List ℕ) (left : Controller) (a : Answer) (also : List ℕ)
-    → Promised c start memory s r after → Promised c start memory s (steppedTo left a) also → Same r (steppedTo left a) after also
+    → StepPromised c start memory s r after → StepPromised c start memory s (steppedTo left a) also → SameStep r (steppedTo left a) after also

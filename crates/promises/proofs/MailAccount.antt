@@ -18,7 +18,7 @@ use Rattle.machine.specs.Code.{codeOf}
 use Rattle.machine.specs.Step.{replyOf, stateAfter, stepOf, respond, answered, doneState, abortedState}
 use Rattle.machine.specs.Event.{Event}
 use Rattle.machine.specs.Run.{run}
-use Rattle.promises.specs.Account.{Touch, write, read, clear, none, isDone, toByte, ownerWrites, otherReads, clearsBytes, touch, later, latest, wasWrite}
+use Rattle.promises.specs.Account.{ByteEvent, write, read, clear, none, isDone, toByte, ownerWrites, otherReads, clearsBytes, touch, later, latest, wasWrite}
 use Rattle.promises.specs.Theorems.{MailAccount}
 use Rattle.machine.specs.declared.Step.{Step}
 use Rattle.laws.proofs.KindNumbers.{named}
@@ -84,19 +84,19 @@ module _ (k : ℕ) (h : k < 32) (e : Event) where
 -- ---- one step
 
 -- what a byte's mark is after a touch
-abbrev touched : Touch → Bool → Bool
+abbrev touched : ByteEvent → Bool → Bool
 touched write b = true
 touched read b = false
 touched clear b = false
 touched none b = b
 
-touched-later : (s t : Touch) (b : Bool) → touched (later s t) b ≡ touched s (touched t b)
+touched-later : (s t : ByteEvent) (b : Bool) → touched (later s t) b ≡ touched s (touched t b)
 touched-later write t b = refl
 touched-later read t b = refl
 touched-later clear t b = refl
 touched-later none t b = refl
 
-touched-false : (t : Touch) → touched t false ≡ wasWrite t
+touched-false : (t : ByteEvent) → touched t false ≡ wasWrite t
 touched-false write = refl
 touched-false read = refl
 touched-false clear = refl
@@ -108,7 +108,7 @@ touched-cond false true t b = refl
 touched-cond false false true b = refl
 touched-cond false false false b = refl
 
-abbrev touchOf : ℕ → Access → Touch
+abbrev touchOf : ℕ → Access → ByteEvent
 touchOf k x = cond (isReset (x .kind) || clearsMarks x) clear (cond (fillsByte k x) write (cond (takesByte k x) read none))
 
 touch-is : (k : ℕ) → k < 32 → (e : Event) → cond (isDone e) (touchOf k (accessOf (e .step))) none ≡ touch k e

@@ -16,7 +16,7 @@ use Rattle.machine.specs.Window.{placeOf, inside}
 use Rattle.machine.specs.Cycles.{lowEnables, cycleWord, stored}
 use Rattle.machine.specs.Code.{codeOf}
 use Rattle.machine.specs.Step.{register, readValue, doneReply, replyOf, answered, memoryAfter, respond, stepOf}
-use Rattle.promises.specs.Readings.{ReadAnswers, Stores, MemoryRule, ReadCycleWord}
+use Rattle.promises.specs.Readings.{ReadAnswers, WriteCycleStores, MemoryRule, ReadCycleWord}
 use Rattle.machine.specs.declared.Step.{Step}
 use Rattle.laws.proofs.Done.{place-inside}
 use Rattle.laws.proofs.Tests.{and-left, and-right}
@@ -43,7 +43,7 @@ read-answers st start memory s e r p k h = rw e (read-value st start memory s r 
 
 -- ---- memory
 
-stores : (st : State) (start : ℕ) (memory : List ℕ) → placeOf start (st .fromAddon .address) < length memory → Stores st start memory (stored st start memory)
+stores : (st : State) (start : ℕ) (memory : List ℕ) → placeOf start (st .fromAddon .address) < length memory → WriteCycleStores st start memory (stored st start memory)
 unfolding stored
 stores st start memory p =
     let at = placeOf start (st .fromAddon .address) in

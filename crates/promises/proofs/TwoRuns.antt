@@ -13,7 +13,7 @@ use Rattle.machine.specs.State.{State, resetState}
 use Rattle.machine.specs.Step.{stepOf}
 use Rattle.machine.specs.Event.{Event, answers}
 use Rattle.machine.specs.Run.{run}
-use Rattle.promises.specs.Account.{isDone, isKind, command, clears, wordsIn, wordsOut, Tally, fresh, tallyAfter, talliedFrom, Alike, AllAlike, noSteps, oneMore, NoClear, accepted, Agreed}
+use Rattle.promises.specs.Account.{isDone, isKind, command, clears, wordsIn, wordsOut, Tally, fresh, tallyAfter, talliedFrom, AlikeButPortData, AllAlike, noSteps, oneMore, NoClear, accepted, SameAccepted}
 use Rattle.promises.specs.Theorems.{TwoRunsSince, TwoRuns}
 use Rattle.machine.specs.declared.Step.{Step}
 use Rattle.promises.proofs.FifoAccount.{fifo-account}
@@ -21,7 +21,7 @@ use Rattle.promises.proofs.FifoAccount.{fifo-account}
 -- ---- two events alike
 
 record Twin (e f : Event) : Type 0 where
-  steps : Alike (e .step) (f .step)
+  steps : AlikeButPortData (e .step) (f .step)
   same : e .answer ≡ f .answer
 
 data Twins : List Event → List Event → Type 0 where
@@ -130,7 +130,7 @@ split (x ∷ xs) [] ys vs n e = absurd (omega arith)
 split (x ∷ xs) (u ∷ us) ys vs n e =
     let r = split xs us ys vs (omega arith) (tail-eq-of-cons-eq e) in (ap₂ (λ (z : ℕ) (l : List ℕ). z ∷ l) (head-eq-of-cons-eq e) (r .0), r .1)
 
-agreed : (side : Side) {es fs : List Event} → Twins es fs → allAccepted side es ≡ allAccepted side fs → Agreed side es fs
+agreed : (side : Side) {es fs : List Event} → Twins es fs → allAccepted side es ≡ allAccepted side fs → SameAccepted side es fs
 agreed side nil h = tt
 agreed side (cons {e = e} {f = f} {es = es} {fs = fs} p ps) h =
     let r = split (accepted side e) (accepted side f) (allAccepted side es) (allAccepted side fs) (accepted-length side e f p) h in (r .0, agreed side ps (r .1))

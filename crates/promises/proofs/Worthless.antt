@@ -11,37 +11,37 @@ use lib.ListN.{getD}
 use Rattle.machine.specs.Sides.{pci, addon}
 use Rattle.machine.specs.State.{resetState}
 use Rattle.machine.specs.Window.{zeroWords}
-use Rattle.machine.specs.Examples.{Seen, ok, pciRead, pciWrite, addonRead, writeCycle}
+use Rattle.machine.specs.Examples.{Observed, ok, pciRead, pciWrite, addonRead, writeCycle}
 use Rattle.promises.specs.Worthless.{RefusingFails, ConstantFails, StillFails, FirstOnlyFails, ConstantBreaks, StillBreaks}
 use Rattle.machine.specs.declared.Answer.{Answer}
 
 -- the answer to step j in row i of a table
-abbrev answerAt : ℕ → ℕ → List Seen → Answer
+abbrev answerAt : ℕ → ℕ → List Observed → Answer
 answerAt i j rows = getD (getD rows i (record { answers = []; words = [] }) .answers) j ok
 
 -- example 1 is done
 pub refusing-fails : RefusingFails
 refusing-fails rule h =
-    let e : suc (rule resetState 0 zeroWords (pciRead 0x3C) .answer .code) ≡ 0 = ap (λ (rows : List Seen). answerAt 0 0 rows .code) h in omega arith
+    let e : suc (rule resetState 0 zeroWords (pciRead 0x3C) .answer .code) ≡ 0 = ap (λ (rows : List Observed). answerAt 0 0 rows .code) h in omega arith
 
 -- examples 1 and 2 show different data
 pub constant-fails : ConstantFails
 constant-fails answer rule h =
-    let first : answer .value ≡ 0xE6 = ap (λ (rows : List Seen). answerAt 0 0 rows .value) h in
-    let second : answer .value ≡ 0xDF1F = ap (λ (rows : List Seen). answerAt 1 1 rows .value) h in
+    let first : answer .value ≡ 0xE6 = ap (λ (rows : List Observed). answerAt 0 0 rows .value) h in
+    let second : answer .value ≡ 0xDF1F = ap (λ (rows : List Observed). answerAt 1 1 rows .value) h in
     omega arith
 
 -- in example 9 the same cycle answers 13, then 11
 pub still-fails : StillFails
 still-fails answer h =
-    let once : answer resetState 0 zeroWords writeCycle .code ≡ 13 = ap (λ (rows : List Seen). answerAt 11 4 rows .code) h in
-    let again : answer resetState 0 zeroWords writeCycle .code ≡ 11 = ap (λ (rows : List Seen). answerAt 11 5 rows .code) h in
+    let once : answer resetState 0 zeroWords writeCycle .code ≡ 13 = ap (λ (rows : List Observed). answerAt 11 4 rows .code) h in
+    let again : answer resetState 0 zeroWords writeCycle .code ≡ 11 = ap (λ (rows : List Observed). answerAt 11 5 rows .code) h in
     omega arith
 
 pub first-only-fails : FirstOnlyFails
 first-only-fails echo h =
-    let once : echo writeCycle .code ≡ 13 = ap (λ (rows : List Seen). answerAt 11 4 rows .code) h in
-    let again : echo writeCycle .code ≡ 11 = ap (λ (rows : List Seen). answerAt 11 5 rows .code) h in
+    let once : echo writeCycle .code ≡ 13 = ap (λ (rows : List Observed). answerAt 11 4 rows .code) h in
+    let again : echo writeCycle .code ≡ 11 = ap (λ (rows : List Observed). answerAt 11 5 rows .code) h in
     omega arith
 
 -- a word written and read back is the constant's data, whatever the word

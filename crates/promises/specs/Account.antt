@@ -65,8 +65,8 @@ tally side es = talliedFrom side fresh es
 -- ---- the mailboxes: byte k of the status is byte k % 4 of the mailbox at offset k / 4 * 4, outgoing if k is below 16
 
 -- what an event is to a mailbox byte
-pub data Touch : Type 0 where
-  write read clear none : Touch
+pub data ByteEvent : Type 0 where
+  write read clear none : ByteEvent
 
 -- to that byte, enabled
 abbrev pub toByte : ℕ → Event → Bool
@@ -83,22 +83,22 @@ otherReads k e = isKind (cond (ltb k 16) 2 0) e && toByte k e
 abbrev pub clearsBytes : Event → Bool
 clearsBytes e = isKind 6 e || command 1 27 e
 
-abbrev pub touch : ℕ → Event → Touch
+abbrev pub touch : ℕ → Event → ByteEvent
 touch k e = cond (isDone e) (cond (clearsBytes e) clear (cond (ownerWrites k e) write (cond (otherReads k e) read none))) none
 
 -- the later of two, if it is any
-abbrev pub later : Touch → Touch → Touch
+abbrev pub later : ByteEvent → ByteEvent → ByteEvent
 later write earlier = write
 later read earlier = read
 later clear earlier = clear
 later none earlier = earlier
 
 -- the latest of all that are done to byte k
-abbrev pub latest : ℕ → List Event → Touch
+abbrev pub latest : ℕ → List Event → ByteEvent
 latest k [] = none
 latest k (e ∷ es) = later (latest k es) (touch k e)
 
-abbrev pub wasWrite : Touch → Bool
+abbrev pub wasWrite : ByteEvent → Bool
 wasWrite write = true
 wasWrite read = false
 wasWrite clear = false
@@ -128,7 +128,7 @@ abbrev pub isPortWrite : Step → Bool
 isPortWrite s = eqb (s .offset) 0x20 && (eqb (s .kind) 1 || eqb (s .kind) 3)
 
 -- two steps that differ at most in the data of a FIFO port write
-pub record Alike (s t : Step) : Type 0 where
+pub record AlikeButPortData (s t : Step) : Type 0 where
   pub kind : s .kind ≡ t .kind
   pub offset : s .offset ≡ t .offset
   pub enables : s .enables ≡ t .enables
@@ -136,7 +136,7 @@ pub record Alike (s t : Step) : Type 0 where
 
 pub data AllAlike : List Step → List Step → Type 0 where
   noSteps : AllAlike [] []
-  oneMore : {s t : Step} {ss ts : List Step} → Alike s t → AllAlike ss ts → AllAlike (s ∷ ss) (t ∷ ts)
+  oneMore : {s t : Step} {ss ts : List Step} → AlikeButPortData s t → AllAlike ss ts → AllAlike (s ∷ ss) (t ∷ ts)
 
 -- every event has a property
 abbrev pub Every : (Event → Type 0) → List Event → Type 0
@@ -152,8 +152,8 @@ abbrev pub accepted : Side → Event → List ℕ
 accepted side e = cond (isDone e) (wordsIn side e) []
 
 -- event by event, the accepted words agree
-abbrev pub Agreed : Side → List Event → List Event → Type 0
-Agreed side [] [] = Unit {0}
-Agreed side [] (f ∷ fs) = ⊥
-Agreed side (e ∷ es) [] = ⊥
-Agreed side (e ∷ es) (f ∷ fs) = (accepted side e ≡ accepted side f) × Agreed side es fs
+abbrev pub SameAccepted : Side → List Event → List Event → Type 0
+SameAccepted side [] [] = Unit {0}
+SameAccepted side [] (f ∷ fs) = ⊥
+SameAccepted side (e ∷ es) [] = ⊥
+SameAccepted side (e ∷ es) (f ∷ fs) = (accepted side e ≡ accepted side f) × SameAccepted side es fs

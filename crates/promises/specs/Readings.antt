@@ -151,7 +151,7 @@ ReadAnswers =
     → (k : ℕ) → k < 32 → bit (o .answer .value) k ≡ (bit (register st (s .offset)) k && bit (s .enables) (k / 8)))
 
 -- what a write cycle leaves of the memory: at the place of its address the lowest n bytes of the front word, the others as they were; all else as it was
-pub record Stores (st : State) (start : ℕ) (memory after : List ℕ) : Type 0 where
+pub record WriteCycleStores (st : State) (start : ℕ) (memory after : List ℕ) : Type 0 where
   pub inside : placeOf start (st .fromAddon .address) < length memory
   pub elsewhere : after ≡ set memory (placeOf start (st .fromAddon .address)) (getD after (placeOf start (st .fromAddon .address)) 0)
   pub bytes :
@@ -165,10 +165,10 @@ MemoryRule =
     (st : State) (start : ℕ) (memory : List ℕ) (s : Step)
     → (let o = stepOf st start memory s in
     let cycle = eqb (o .answer .code) 0 && eqb (s .kind) 4 in
-    (cycle ≡ false → o .memory ≡ memory) × (cycle ≡ true → Stores st start memory (o .memory)))
+    (cycle ≡ false → o .memory ≡ memory) × (cycle ≡ true → WriteCycleStores st start memory (o .memory)))
 
 -- what a done read cycle answers, and so by `fifo-account` lets in: the lowest n bytes of the memory word at its place, zero above them (house)
-pub record Loads (st : State) (start : ℕ) (memory : List ℕ) (word : ℕ) : Type 0 where
+pub record ReadCycleLoads (st : State) (start : ℕ) (memory : List ℕ) (word : ℕ) : Type 0 where
   pub inside : placeOf start (st .fromPci .address) < length memory
   pub bytes :
       (k : ℕ) → k < 32
@@ -178,7 +178,7 @@ pub record Loads (st : State) (start : ℕ) (memory : List ℕ) (word : ℕ) : T
 abbrev pub ReadCycleWord : Type 0
 ReadCycleWord =
     (st : State) (start : ℕ) (memory : List ℕ) (s : Step)
-    → (let o = stepOf st start memory s in o .answer .code ≡ 0 → eqb (s .kind) 5 ≡ true → Loads st start memory (o .answer .value))
+    → (let o = stepOf st start memory s in o .answer .code ≡ 0 → eqb (s .kind) 5 ≡ true → ReadCycleLoads st start memory (o .answer .value))
 
 -- `reset-rule`: a done chip reset leaves zeros and empty FIFOs, host memory as it was, and answers zeros
 abbrev pub ResetRule : Type 0

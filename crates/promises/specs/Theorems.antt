@@ -14,7 +14,7 @@ use Rattle.machine.specs.Code.{tests, testOf, isOutOfForm}
 use Rattle.machine.specs.Step.{stepOf, notAFrame}
 use Rattle.machine.specs.Event.{Event, answers}
 use Rattle.machine.specs.Run.{Rule, runOf, run}
-use Rattle.promises.specs.Account.{tally, latest, wasWrite, byteOf, lastStored, AllAlike, Every, NoClear, Agreed}
+use Rattle.promises.specs.Account.{tally, latest, wasWrite, byteOf, lastStored, AllAlike, Every, NoClear, SameAccepted}
 use Rattle.machine.specs.declared.Step.{Step}
 use Rattle.machine.specs.declared.Answer.{Answer}
 
@@ -135,4 +135,4 @@ TwoRuns =
     (start : ℕ) (memory : List ℕ) (ss ts : List Step) → AllAlike ss ts
     → (let r = run resetState start memory ss in let q = run resetState start memory ts in
     answers (r .events) ≡ answers (q .events) → ((side : Side) → held side (r .state) ≡ held side (q .state))
-    → ((side : Side) → NoClear side (r .events)) → (side : Side) → Agreed side (r .events) (q .events))
+    → ((side : Side) → NoClear side (r .events)) → (side : Side) → SameAccepted side (r .events) (q .events))

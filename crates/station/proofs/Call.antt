@@ -11,17 +11,17 @@ use Rattle.machine.specs.State.{resetState}
 use Rattle.machine.specs.Window.{zeroWords}
 use Rattle.lines.specs.Lines.{linesFrom, lines}
 use Rattle.logline.specs.Labels.{isSet}
-use Rattle.log.specs.Log.{logOf, toldOf, textTold}
+use Rattle.log.specs.Log.{logOf, linesOutcome, textOutcome}
 use Rattle.log.specs.Results.{isShort, withLog, textRun}
 use Rattle.log.specs.Promises.{programLog}
-use Rattle.log.proofs.Told.{log-length, told-length}
+use Rattle.log.proofs.TextOutcome.{log-length, told-length}
 use Rattle.station.specs.Call.{fromReset, isTooLong, numberOf, resultOf, outputOf, CallUnique, EmptyCall, CallRule}
 
 pub call-unique : CallUnique
 call-unique set input output r q after also p o = (p .result ∙ sym (o .result), p .written ∙ sym (o .written))
 
 pub empty-call : EmptyCall
-unfolding linesFrom logOf toldOf isShort withLog textRun fromReset isTooLong numberOf resultOf outputOf
+unfolding linesFrom logOf linesOutcome isShort withLog textRun fromReset isTooLong numberOf resultOf outputOf
 empty-call set output s =
     let enough = le-ltb (length output) 0 zero-le in
     (simp (s, enough), simp (s, enough))
@@ -30,7 +30,7 @@ module _ (set : ℕ) (input output : List ℕ) where
   -- the log has room where there are 40 bytes for each line
   log-within : 40 * length (lines input) ≤ length output → length (programLog set input) ≤ length output
   unfolding programLog
-  log-within h = omega (arith, log-length set (textTold resetState 0 zeroWords input .answers), told-length resetState 0 zeroWords (lines input))
+  log-within h = omega (arith, log-length set (textOutcome resetState 0 zeroWords input .answers), told-length resetState 0 zeroWords (lines input))
 
   too-long : 1_048_576 < length input → (resultOf set input output ≡ negsuc 1) × (outputOf set input output ≡ output)
   unfolding isTooLong resultOf outputOf

@@ -50,7 +50,7 @@ abbrev pub EmptyCall : Type 0
 EmptyCall = (set : ℕ) (output : List ℕ) → isSet set ≡ true → (resultOf set [] output ≡ pos 0) × (outputOf set [] output ≡ output)
 
 -- in the documents' numbers; -3 is `negsuc 2`, -2 is `negsuc 1`, -1 is `negsuc 0`
-pub record Calls (set : ℕ) (input output : List ℕ) (r : ℤ) (after : List ℕ) : Type 0 where
+pub record CallByNumbers (set : ℕ) (input output : List ℕ) (r : ℤ) (after : List ℕ) : Type 0 where
   -- an input above 1,048,576 bytes: -2, and the output is as it was
   pub tooLong : 1_048_576 < length input → (r ≡ negsuc 1) × (after ≡ output)
   -- any other, under a number that is no label set: -3, and the output is as it was
@@ -64,4 +64,4 @@ pub record Calls (set : ℕ) (input output : List ℕ) (r : ℤ) (after : List �
 
 -- `call-rule`: whatever input and output are, that is what `s5933_log` promises
 abbrev pub CallRule : Type 0
-CallRule = (set : ℕ) (input output : List ℕ) (r : ℤ) (after : List ℕ) → CallPromised set input output r after → Calls set input output r after
+CallRule = (set : ℕ) (input output : List ℕ) (r : ℤ) (after : List ℕ) → CallPromised set input output r after → CallByNumbers set input output r after

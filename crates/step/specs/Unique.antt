@@ -12,12 +12,12 @@ use Rattle.step.specs.Outcome.{outcomeOf}
 use Rattle.step.specs.declared.Stepped.{Stepped}
 
 -- the contract: the outcome is the machine's, and a refusal leaves the controller literally as it was
-pub record Promised (c : Controller) (start : ℕ) (memory : List ℕ) (s : Step) (r : Stepped) (after : List ℕ) : Type 0 where
+pub record StepPromised (c : Controller) (start : ℕ) (memory : List ℕ) (s : Step) (r : Stepped) (after : List ℕ) : Type 0 where
   pub outcome : outcomeOf r after ≡ stepOf (stateOf c) start memory s
   pub refused : eqb (r .answer .code) 0 ≡ false → eqb (r .answer .code) 13 ≡ false → r .controller ≡ c
 
 -- two results are the same: state (FIFOs by the words they hold), answer and memory, and where refused the controllers to the letter
-pub record Same (r q : Stepped) (after also : List ℕ) : Type 0 where
+pub record SameStep (r q : Stepped) (after also : List ℕ) : Type 0 where
   pub state : stateOf (r .controller) ≡ stateOf (q .controller)
   pub answer : r .answer ≡ q .answer
   pub memory : after ≡ also
@@ -27,4 +27,4 @@ pub record Same (r q : Stepped) (after also : List ℕ) : Type 0 where
 abbrev pub StepUnique : Type 0
 StepUnique =
     (c : Controller) (start : ℕ) (memory : List ℕ) (s : Step) (r q : Stepped) (after also : List ℕ)
-    → Promised c start memory s r after → Promised c start memory s q also → Same r q after also
+    → StepPromised c start memory s r after → StepPromised c start memory s q also → SameStep r q after also

@@ -15,7 +15,7 @@ ghost use Rattle.machine.specs.Step.{doneReply, abortedReply, answered, doneSta
 ghost use Rattle.fifo.specs.Held as ring;
 ghost use Rattle.controller.specs.Controller.{laneOf, stateOf};
 ghost use Rattle.step.specs.Outcome.{outcomeOf};
-ghost use Rattle.step.specs.Unique.{Promised};
+ghost use Rattle.step.specs.Unique.{StepPromised};
 use controller::Controller;
 use controller::Lane;
 use fifo::Fifo;
@@ -243,7 +243,7 @@ fn done(c: Controller, memory: &mut [u32], start: u32, s: Step) -> Stepped
 
 // One step: every controller, memory, start and numbers have an answer, and a refusal leaves the controller as it was.
 pub fn step(c: Controller, memory: &mut [u32], start: u32, s: Step) -> Stepped
-    ensures { λ r. ⌜ Promised c start (now (memory .entry)) s r (now (memory .exit)) ⌝ }
+    ensures { λ r. ⌜ StepPromised c start (now (memory .entry)) s r (now (memory .exit)) ⌝ }
 {
     let code = code::code(c, start, memory.len(), s);
     if code == codes::DONE {

@@ -7,7 +7,7 @@ use lib.ListN.{length, length-take}
 use Rattle.controller.specs.Controller.{stateOf}
 use Rattle.lines.proofs.Lines.{lines-stop}
 use Rattle.logline.proofs.Stores.{wrote-none}
-use Rattle.log.specs.Log.{logOf, Told, toldOf}
+use Rattle.log.specs.Log.{logOf, TextOutcome, linesOutcome}
 use Rattle.log.specs.Results.{begunOf}
 use Rattle.log.proofs.Carried.{bytes-length}
 use Rattle.log.proofs.Ends.{end-is}
@@ -16,7 +16,7 @@ use Rattle.log.proofs.end_line.Statement.{statement}
 use Rattle.log.proofs.end_line.Tie as tie
 
 returns : tie.Need-returns
-unfolding begunOf toldOf logOf
+unfolding begunOf linesOutcome logOf
 returns c = rw (c .if1 .taken, lines-stop [] refl) (record { state = refl; memory = refl; log = wrote-none })
 
 feed-bytes-requires : tie.Need-feed-bytes-requires
@@ -26,7 +26,7 @@ feed-bytes-requires c κs =
     let s = i .before .before .before .before in
     let a = s .args in
     let begun : 0 < length (begunOf (a .s)) = omega (arith, length-take (a .s .len) (a .s .bytes), bytes-length (a .s) (s .good .0), i .if1 .left) in
-    omega (arith, s .pre, ap (λ (t : Told). length (t .answers)) (end-is (stateOf (a .s .controller)) (a .start) (now (a .memory)) (begunOf (a .s)) begun))
+    omega (arith, s .pre, ap (λ (t : TextOutcome). length (t .answers)) (end-is (stateOf (a .s .controller)) (a .start) (now (a .memory)) (begunOf (a .s)) begun))
 
 returns-2 : tie.Need-returns-2
 unfolding begunOf

@@ -4,10 +4,10 @@ use mathlib.Core.Bool.{true≢false}
 use native.Mathlib.Omega.{arith}
 use lib.ListN.{length}
 use Rattle.controller.specs.Controller.{stateOf}
-use Rattle.log.specs.Log.{fedOf}
+use Rattle.log.specs.Log.{pieceOutcome}
 use Rattle.log.specs.Results.{begunOf, pieceOf}
 use Rattle.log.proofs.Carried.{answers-few}
-use Rattle.log.proofs.Told.{log-length}
+use Rattle.log.proofs.TextOutcome.{log-length}
 use Rattle.log.proofs.Room.{short, long, log-end, with-log}
 use borrow.Author.Needs.{needs}
 use Rattle.log.proofs.feed.Statement.{statement}
@@ -29,7 +29,7 @@ returns-2 c =
     let enough = long (length (now (a .piece))) (now (a .out)) (e .if1 .left) in
     let w = g .feed-bytes .ensures in
     let st = stateOf (a .s .controller) in
-    let f = fedOf st (a .start) (now (a .memory)) (begunOf (a .s)) (now (a .piece)) in
+    let f = pieceOutcome st (a .start) (now (a .memory)) (begunOf (a .s)) (now (a .piece)) in
     let n = answers-few st (a .start) (now (a .memory)) (begunOf (a .s)) (now (a .piece)) in
     record {
       fed = rw (w .state, w .memory, w .begun, log-end (w .log), with-log (w .log) (omega (arith, log-length (a .set) (f .answers), n, e .if1 .left))) (simp enough);

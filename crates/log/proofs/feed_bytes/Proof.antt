@@ -10,9 +10,9 @@ use Rattle.logline.specs.LogLine.{lineRoom}
 use Rattle.logline.specs.Wrote.{Wrote}
 use Rattle.logline.proofs.Room.{in-room}
 use Rattle.logline.proofs.Stores.{wrote-none, wrote-then}
-use Rattle.log.specs.Log.{logOf, fedOf}
+use Rattle.log.specs.Log.{logOf, pieceOutcome}
 use Rattle.log.specs.Results.{begunOf}
-use Rattle.log.proofs.Told.{log-append, log-one, log-length}
+use Rattle.log.proofs.TextOutcome.{log-append, log-one, log-length}
 use Rattle.log.proofs.Carried.{bytes-length, clip, afterFed, fed-none}
 use Rattle.log.proofs.Turns.{turn-ended, turn-on, more-answers}
 use borrow.Author.Needs.{needs}
@@ -25,7 +25,7 @@ Inv-loop memory₀ start piece out₀ at set c₀ bytes₀ len₀ n₀ i₀ memo
     × (i ≤ length piece) × (len ≤ 14) × (length bytes ≡ 14) × (length out ≡ length out₀)
     × (length memory ≡ length memory₀)
     × Wrote out₀ at (logOf set done) n out
-    × (fedOf (stateOf c₀) start memory₀ (take len₀ bytes₀) piece ≡ afterFed done (fedOf (stateOf c) start memory (take len bytes) (drop i piece)))
+    × (pieceOutcome (stateOf c₀) start memory₀ (take len₀ bytes₀) piece ≡ afterFed done (pieceOutcome (stateOf c) start memory (take len bytes) (drop i piece)))
 
 abbrev μ-loop : tie.MeasureT-loop
 μ-loop memory₀ start piece out₀ at set c₀ bytes₀ len₀ n₀ i₀ memory out c bytes len n i = length piece - i

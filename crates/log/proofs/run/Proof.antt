@@ -6,9 +6,9 @@ use native.Mathlib.Omega.{arith}
 use lib.ListN.{length}
 use Rattle.controller.specs.Controller.{stateOf}
 use Rattle.lines.specs.Lines.{lines}
-use Rattle.log.specs.Log.{textTold, fedOf}
+use Rattle.log.specs.Log.{textOutcome, pieceOutcome}
 use Rattle.log.specs.Results.{textRun}
-use Rattle.log.proofs.Told.{told-length, log-length}
+use Rattle.log.proofs.TextOutcome.{told-length, log-length}
 use Rattle.log.proofs.Room.{short, long, log-end, with-log}
 use Rattle.log.proofs.Ends.{text-fed, fed-answers, then-ends}
 use borrow.Author.Needs.{needs}
@@ -37,7 +37,7 @@ end-line-requires c κs =
     let n = b .before .before in
     let a = n .before .before .before .before .args in
     let w = rw (b .not-begun .ensures .0, b .not-begun .ensures .1) at (f .feed-bytes .ensures) in
-    let fed = fedOf (stateOf (a .c)) (a .start) (now (a .memory)) [] (now (a .text)) in
+    let fed = pieceOutcome (stateOf (a .c)) (a .start) (now (a .memory)) [] (now (a .text)) in
     rw (w .state, w .memory, w .begun)
     (omega (arith, b .before .if1 .left, n .line-count .ensures, fed-answers (stateOf (a .c)) (a .start) (now (a .memory)) (now (a .text)), w .log .next, log-length (a .set) (fed .answers), f .feed-bytes .kept .1 .1 .1 .1 .0))
 
@@ -54,7 +54,7 @@ returns-2 c =
     let enough = long (length (lines text)) (now (a .out)) (rw (← n .line-count .ensures) (i .if1 .left)) in
     let fed = rw (b .not-begun .ensures .0, b .not-begun .ensures .1) at (f .feed-bytes .ensures) in
     let w = rw (← text-fed (stateOf (a .c)) (a .start) (now (a .memory)) text) at (then-ends (a .set) (a .start) fed (g .end-line .ensures)) in
-    let t = textTold (stateOf (a .c)) (a .start) (now (a .memory)) text in
+    let t = textOutcome (stateOf (a .c)) (a .start) (now (a .memory)) text in
     let m = told-length (stateOf (a .c)) (a .start) (now (a .memory)) (lines text) in
     record {
       ran = rw (w .state, w .memory, log-end (w .log), with-log (w .log) (omega (arith, log-length (a .set) (t .answers), m, i .if1 .left, n .line-count .ensures))) (simp enough);

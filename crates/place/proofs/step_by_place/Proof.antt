@@ -47,7 +47,7 @@ use Rattle.controller.specs.declared.Controller.{Controller}
 use Rattle.machine.specs.declared.Answer.{Answer}
 use Rattle.machine.specs.declared.Step.{Step}
 use Rattle.step.specs.declared.Stepped.{Stepped}
-use Rattle.step.specs.Unique.{Promised}
+use Rattle.step.specs.Unique.{StepPromised}
 use Rattle.place.proofs.Values.{vC, vD, vN, vS}
 use Rattle.controller.proofs.Controller as T
 use Rattle.controller.proofs.Controller.Laws as T′
@@ -129,7 +129,7 @@ module _ {M : Type 1} (𝓤 : URA M) (H : Heap 𝓤) (A : Atoms 𝓤) (W : Given
       qed W ((‵ (flft (ν ∷ []) fullShare) ⊛ ‵ (flft κ q) ⊛ ‵ ftrue) ∷ ‵ (owns (MutRef (named 0) (ν ∷ []) T.the-row ∷ MutSlice (named 1) κ u32 ∷ u32 ∷ D.the-row ∷ []) (lent b γ, (x, (n, (d, tt)))) (vptr b 0 ∷ [], (s ∷ [], (vint w32 n ∷ [], (vD d ∷ [], tt))))) ∷ []) ∵
       join ! $ frame ! $ done !
 
-  exits : (r : Stepped) (zs : List ℕ) → Promised h n ys d r zs → length zs ≡ length ys → Is S.the-row r (vS r ∷ []) → ent 𝓤 (⋆ 𝓤 H A ((‵ (flft κ q) ⊛ ‵ ftrue) ∷ ‵ (finally u32 γ′ zs) ∷ [])) (Post (vS r))
+  exits : (r : Stepped) (zs : List ℕ) → StepPromised h n ys d r zs → length zs ≡ length ys → Is S.the-row r (vS r ∷ []) → ent 𝓤 (⋆ 𝓤 H A ((‵ (flft κ q) ⊛ ‵ ftrue) ∷ ‵ (finally u32 γ′ zs) ∷ [])) (Post (vS r))
   exits r zs e l is =
       qed W ((‵ (flft κ q) ⊛ ‵ ftrue) ∷ ‵ (finally u32 γ′ zs) ∷ []) ∵
       suffices ! _ (ends-at 𝓤 H A f.ended stayed (f.clauses 𝓤 H A at-mem run) W (((κ, tt), (q, tt), tt, a, vals), tt) (vS r) r (tt, (zs, (tt, (tt, tt)))) (tt, (l, (tt, (tt, tt))))) $ says ! e $
@@ -157,8 +157,8 @@ module _ {M : Type 1} (𝓤 : URA M) (H : Heap 𝓤) (A : Atoms 𝓤) (W : Given
         calls-at ! fm (InPlace 𝓤 H A at-mem run) known (to-in l₅ ν γ) (and-then ! (load ! (from ! (stop !)) (look ! 8 refl)) (and-then ! (load ! (from ! (stop !)) (look ! 4 refl)) (and-then ! (load ! (from ! (stop !)) (look ! 15 refl)) (and-then ! (load ! (from ! (stop !)) (look ! 13 refl)) (no-more !))))) (λ w.
         use1 W (later (some (λ (r : Answer). ((‵ (flft (ν ∷ []) fullShare) ⊛ ‵ (flft κ q) ⊛ ‵ ftrue) ⊛ ‵ (N.the-row .own r (w ∷ []))) ⊛ raw (ensured 𝓤 H A in-place.ended (in-place.clauses 𝓤 H A at-mem run) (ν ∷ [], (κ, tt)) (lent l₅ γ, (x, (n, (d, tt)))) tt r)))) (id⊢ 𝓤 _) $ await ! tt $ pick ! (λ r.
         -- what it ensures, at some last controller and list
-        split ! $ move ! (1 ∷ []) $ use1 W (some (λ (zs : Controller × (List ℕ × (Unit {0} × (Unit {0} × Unit {0})))). ‵ (lasts in-place.ended (ν ∷ [], (κ, tt)) (lent l₅ γ, (x, (n, (d, tt)))) zs) ⊛ raw (fact 𝓤 (Promised h n ys d (out (zs .0) r) (zs .1 .0))))) (id⊢ 𝓤 _) $ pick ! (λ zs.
-        split ! $ move ! (1 ∷ []) $ heard ! (Promised h n ys d (out (zs .0) r) (zs .1 .0)) (λ e.
+        split ! $ move ! (1 ∷ []) $ use1 W (some (λ (zs : Controller × (List ℕ × (Unit {0} × (Unit {0} × Unit {0})))). ‵ (lasts in-place.ended (ν ∷ [], (κ, tt)) (lent l₅ γ, (x, (n, (d, tt)))) zs) ⊛ raw (fact 𝓤 (StepPromised h n ys d (out (zs .0) r) (zs .1 .0))))) (id⊢ 𝓤 _) $ pick ! (λ zs.
+        split ! $ move ! (1 ∷ []) $ heard ! (StepPromised h n ys d (out (zs .0) r) (zs .1 .0)) (λ e.
         fsplit ! $ move ! (1 ∷ []) $ fsplit ! $ fsplit ! $ move ! (1 ∷ []) $ feqL ! (λ l.
         -- [the last list; …; the last controller; the tokens and the result; the lender's part; _10; …]
         move ! (3 ∷ []) $ split ! $ split ! $ move ! (2 ∷ []) $

@@ -45,7 +45,7 @@ use denote.Exit.{yes}
 use Rattle.controller.specs.declared.Controller.{Controller}
 use Rattle.machine.specs.declared.Step.{Step}
 use Rattle.step.specs.declared.Stepped.{Stepped}
-use Rattle.step.specs.Unique.{Promised}
+use Rattle.step.specs.Unique.{StepPromised}
 use Rattle.place.proofs.Values.{vC, vD, vN, vS}
 use Rattle.controller.proofs.Controller as T
 use Rattle.controller.proofs.Controller.Laws as T′
@@ -108,7 +108,7 @@ module _ {M : Type 1} (𝓤 : URA M) (H : Heap 𝓤) (A : Atoms 𝓤) (W : Given
       qed W ((‵ (flft κ′ q′) ⊛ ‵ ftrue) ∷ ‵ (owns (MutSlice (named 0) κ′ u32 ∷ u32 ∷ D.the-row ∷ []) (x, (n, (d, tt))) (s ∷ [], (vint w32 n ∷ [], (vD d ∷ [], tt)))) ∷ []) ∵
       move ! (1 ∷ []) $ owned ! T.the-row (Is T.the-row) (LL.makes T.the-type T′.the-plain 𝓤 H A) h _ was $ fjoin ! $ move ! (1 ∷ 0 ∷ []) $ join ! $ frame ! $ done !
 
-  exits : (r : Stepped) (zs : List ℕ) → Promised h n ys d r zs → length zs ≡ length ys → Is S.the-row r (vS r ∷ [])
+  exits : (r : Stepped) (zs : List ℕ) → StepPromised h n ys d r zs → length zs ≡ length ys → Is S.the-row r (vS r ∷ [])
       → ent 𝓤 (⋆ 𝓤 H A (‵ (fobs γ (T.the-row .coded .code (r .controller))) ∷ ‵ (fbor κ (Body (mem T.the-row) b o γ)) ∷ ‵ (flft κ q) ∷ (‵ (flft κ′ q′) ⊛ ‵ ftrue) ∷ ‵ (finally u32 γ′ zs) ∷ [])) (Post (vN (r .answer)))
   exits r zs e l is =
       qed W (‵ (fobs γ (T.the-row .coded .code (r .controller))) ∷ ‵ (fbor κ (Body (mem T.the-row) b o γ)) ∷ ‵ (flft κ q) ∷ (‵ (flft κ′ q′) ⊛ ‵ ftrue) ∷ ‵ (finally u32 γ′ zs) ∷ []) ∵
@@ -136,8 +136,8 @@ module _ {M : Type 1} (𝓤 : URA M) (H : Heap 𝓤) (A : Atoms 𝓤) (W : Given
         calls-at ! fm (StepC 𝓤 H A at-mem run) known to-step (and-then ! (load ! (from ! (stop !)) (look ! 10 refl)) (and-then ! (load ! (from ! (stop !)) (look ! 6 refl)) (and-then ! (load ! (from ! (stop !)) (look ! 16 refl)) (and-then ! (load ! (from ! (stop !)) (look ! 14 refl)) (no-more !))))) (λ w.
         use1 W (later (some (λ (r : Stepped). ((‵ (flft κ′ q′) ⊛ ‵ ftrue) ⊛ ‵ (S.the-row .own r (w ∷ []))) ⊛ raw (ensured 𝓤 H A step.ended (step.clauses 𝓤 H A at-mem run) (κ′, tt) (h, (x, (n, (d, tt)))) tt r)))) (id⊢ 𝓤 _) $ await ! tt $ pick ! (λ r.
         -- what `step` ensures, at some last list
-        split ! $ move ! (1 ∷ []) $ use1 W (some (λ (zs : Unit {0} × (List ℕ × (Unit {0} × (Unit {0} × Unit {0})))). ‵ (lasts step.ended (κ′, tt) (h, (x, (n, (d, tt)))) zs) ⊛ raw (fact 𝓤 (Promised h n ys d r (zs .1 .0))))) (id⊢ 𝓤 _) $ pick ! (λ zs.
-        split ! $ move ! (1 ∷ []) $ heard ! (Promised h n ys d r (zs .1 .0)) (λ e. fsplit ! $ move ! (1 ∷ []) $ fsplit ! $ fsplit ! $ move ! (1 ∷ []) $ feqL ! (λ l.
+        split ! $ move ! (1 ∷ []) $ use1 W (some (λ (zs : Unit {0} × (List ℕ × (Unit {0} × (Unit {0} × Unit {0})))). ‵ (lasts step.ended (κ′, tt) (h, (x, (n, (d, tt)))) zs) ⊛ raw (fact 𝓤 (StepPromised h n ys d r (zs .1 .0))))) (id⊢ 𝓤 _) $ pick ! (λ zs.
+        split ! $ move ! (1 ∷ []) $ heard ! (StepPromised h n ys d r (zs .1 .0)) (λ e. fsplit ! $ move ! (1 ∷ []) $ fsplit ! $ fsplit ! $ move ! (1 ∷ []) $ feqL ! (λ l.
         -- [the last list; …; …; the token and the result; the controller's cell; what it owned; the open borrow; obs; auth; _8; …]
         move ! (3 ∷ []) $ split ! $ move ! (1 ∷ []) $
         peeks ! S.the-row (Is S.the-row) (shows 𝓤 H A S.the-row) r (w ∷ []) (λ is′.

@@ -10,7 +10,7 @@ use Rattle.machine.specs.State.{State}
 use Rattle.machine.specs.declared.Answer.{Answer}
 use Rattle.logline.specs.LogLine.{logLine, lineRoom}
 use Rattle.logline.proofs.Labels.{line-fits}
-use Rattle.log.specs.Log.{lineOutcome, logOf, toldOf}
+use Rattle.log.specs.Log.{lineOutcome, logOf, linesOutcome}
 use Rattle.log.specs.Promises.{LogAppend}
 
 pub log-append : LogAppend
@@ -27,8 +27,8 @@ unfolding logOf
 log-length set [] = zero-le
 log-length set (a ∷ xs) = rw length-append (omega (arith, line-fits set a, log-length set xs))
 
-pub told-length : (st : State) (start : ℕ) (memory : List ℕ) (ls : List (List ℕ)) → length (toldOf st start memory ls .answers) ≡ length ls
-unfolding toldOf
+pub told-length : (st : State) (start : ℕ) (memory : List ℕ) (ls : List (List ℕ)) → length (linesOutcome st start memory ls .answers) ≡ length ls
+unfolding linesOutcome
 told-length st start memory [] = refl
 told-length st start memory (line ∷ ls) =
     let o = lineOutcome st start memory line in
