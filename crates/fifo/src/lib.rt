@@ -90,7 +90,7 @@ pub fn has_words(f: Fifo, four: bool) -> bool
     need.0 <= fill(f).0
 }
 
-// Whether there is room for a word, or for four.
+// Whether one word more would fit, or four.
 pub fn has_room(f: Fifo, four: bool) -> bool
     ensures { λ r. ⌜ r ≡ leb (cond four 4 1) (amount pci (held f)) ⌝ }
 {

@@ -1,4 +1,4 @@
--- "Choosing an answer by its label" is easy to get wrong: what a log line says is in its digits. No answer has a number that they do not hold.
+-- Easy to get wrong, labels used as keys: what a log line says is in its digits. No answer has a number that they do not hold.
 use Prim.Native.Nat.{ℕ}
 use mathlib.Core.Path.{_≡_}
 use mathlib.Core.List.{List, [], _∷_}

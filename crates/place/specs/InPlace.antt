@@ -1,4 +1,4 @@
--- "A station runs for weeks: besides the by-value step, one form works on that one controller where it stands, proved equal to it."
+-- Frames and the log, last sentence: the step on a controller in place gives what the step by value gives.
 use Prim.Native.Nat.{ℕ}
 use mathlib.Core.List.{List}
 use Rattle.machine.specs.declared.Step.{Step}

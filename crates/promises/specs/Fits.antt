@@ -32,7 +32,7 @@ pub record StateFits (st : State) : Type 0 where
   pub intcsr : st .intcsr < 2 ^ 32
   pub mcsr : st .mcsr < 2 ^ 32
 
--- "code 2, address 8, data 8, enables 1" digits hold the numbers of an answer
+-- Frames and the log: two digits hold the code of an answer, eight its address, eight its data, one its enables
 pub record AnswerFits (a : Answer) : Type 0 where
   pub code : a .code ≤ 14
   pub address : a .address < 2 ^ 32

@@ -100,7 +100,7 @@ pciReadOnly = 0x10 ∷ 0x14 ∷ 0x18 ∷ 0x1C ∷ 0x34 ∷ []
 abbrev pub addonReadOnly : List ℕ
 addonReadOnly = 0x00 ∷ 0x04 ∷ 0x08 ∷ 0x0C ∷ 0x34 ∷ []
 
--- `offset-table`: "Register offsets", of each side those in its table and the read-only ones
+-- `offset-table`: Register offsets, of each side those in its table and the read-only ones
 pub record OffsetTable (offset : ℕ) : Type 0 where
   pub inPci : inTable pci offset ≡ isOneOf pciOffsets offset
   pub inAddon : inTable addon offset ≡ isOneOf addonOffsets offset
@@ -110,7 +110,7 @@ pub record OffsetTable (offset : ℕ) : Type 0 where
 abbrev pub OffsetTables : Type 0
 OffsetTables = (offset : ℕ) → OffsetTable offset
 
--- `register-table`: "Register offsets", what is read at each of them but the FIFO port: the eight mailbox words, outgoing ones first, then the registers by name
+-- `register-table`: Register offsets, what is read at each of them but the FIFO port: the eight mailbox words, outgoing ones first, then the registers by name
 pub record RegisterTable (st : State) : Type 0 where
   pub mail : (i : ℕ) → i < 8 → register st (4 * i) ≡ getD (st .mail) i 0
   pub writeAddress : register st 0x24 ≡ st .fromAddon .address
@@ -124,7 +124,7 @@ pub record RegisterTable (st : State) : Type 0 where
 abbrev pub RegisterTables : Type 0
 RegisterTables = (st : State) → RegisterTable st
 
--- `ready-rule`: "FIFOs and memory cycles", a write cycle with four words or, where MCSR 9 is clear, with one; a read cycle with room for four
+-- `ready-rule`: FIFOs and memory cycles, a write cycle with four words or, where MCSR 9 is clear, with one; a read cycle with room for four
 -- or, where MCSR 13 is clear, for one
 pub record ReadyThen (st : State) : Type 0 where
   pub write : isReady addon st ≡ (leb 4 (length (st .fromAddon .words)) || not (bit (st .mcsr) 9) && leb 1 (length (st .fromAddon .words)))
@@ -133,7 +133,7 @@ pub record ReadyThen (st : State) : Type 0 where
 abbrev pub ReadyRule : Type 0
 ReadyRule = (st : State) → ReadyThen st
 
--- `place-rule`: "A step and its answer", the place of an address among the words from a start on, both of 32 bits; below the start it is past the wrap
+-- `place-rule`: A step and its answer, the place of an address among the words from a start on, both of 32 bits; below the start it is past the wrap
 abbrev pub PlaceRule : Type 0
 PlaceRule =
     (start address : ℕ) → start < 2 ^ 32 → address < 2 ^ 32
@@ -238,7 +238,7 @@ EventRule =
 
 -- ---- of an answer
 
--- "INTCSR and MCSR", the interrupt line by the bits of INTCSR: 16 with 4, 17 with 12, 18 with 14, 19 with 15, or 20, or 21
+-- INTCSR and MCSR: the interrupt line by the bits of INTCSR, four flags each with its enable, and two that need none
 abbrev pub isLineHigh : ℕ → Bool
 isLineHigh i = anyOf (map (λ (pair : ℕ × ℕ). bit i (pair .0) && bit i (pair .1)) ((16, 4) ∷ (17, 12) ∷ (18, 14) ∷ (19, 15) ∷ [])) || (bit i 20 || bit i 21)
 
@@ -258,7 +258,7 @@ readThen st s words =
     let b = byteIf (register st (s .offset)) (s .enables) in
     cond (eqb (s .offset) 0x20) (front words) (b 0 + b 1 + b 2 + b 3)
 
--- What a done step answers, for each kind: 0 PCI read, 1 PCI write, 2 Add-On read, 3 Add-On write, 4 write cycle, 5 read cycle, 6 chip reset.
+-- What a done step answers, a list by the kind's number: reads and writes of the host, of the card, the two cycles, the reset.
 -- PCI reads the FIFO that the Add-On feeds, and the Add-On the other. A cycle answers the address before the step,
 abbrev pub addresses : State → List ℕ
 addresses st = 0 ∷ 0 ∷ 0 ∷ 0 ∷ st .fromAddon .address ∷ st .fromPci .address ∷ 0 ∷ []
@@ -274,7 +274,7 @@ values st start memory s =
 abbrev pub lowestEnables : State → List ℕ
 lowestEnables st = 0 ∷ 0 ∷ 0 ∷ 0 ∷ (2 ^ min 4 (st .fromAddon .count) - 1) ∷ (2 ^ min 4 (st .fromPci .count) - 1) ∷ 0 ∷ []
 
--- `answer-rule`: "A step and its answer", "FIFOs and memory cycles", what a done step answers besides the code
+-- `answer-rule`: A step and its answer, FIFOs and memory cycles: what a done step answers besides the code
 pub record AnswerThen (st : State) (start : ℕ) (memory : List ℕ) (s : Step) (after : State) (a : Answer) : Type 0 where
   pub kind : s .kind ≤ 6
   pub address : a .address ≡ getD (addresses st) (s .kind) 0
