@@ -1,17 +1,13 @@
 // The count registers, and the bytes that a cycle moves.
 ghost use mathlib.Core.Path.{_≡_};
-ghost use mathlib.Core.Bool.{cond, _&&_};
+ghost use mathlib.Core.Bool.{cond};
 ghost use lib.Dec.{eqb, ltb};
-ghost use Rattle.machine.specs.Sides.{pci, addon};
-ghost use Rattle.machine.specs.Access.{accessOf};
 ghost use Rattle.machine.specs.Words.{written};
-ghost use Rattle.machine.specs.Cycles.{moved, lowEnables, countKept, countLeft, runsOut, countAfter};
+ghost use Rattle.machine.specs.Cycles.{moved, lowEnables, countKept, countLeft, runsOut};
 use controller::ByteCount;
 use machine::ALL_ENABLES;
 use machine::Step;
 use machine::WORD_BYTES;
-use machine::kinds;
-use machine::offsets;
 
 // The bits that a count keeps, 25 to 0, and so the largest count in form.
 const KEPT: u32 = 0x03FF_FFFF;
@@ -69,7 +65,7 @@ pub fn low_enables(count: ByteCount) -> u32
 }
 
 // The count after a cycle.
-fn count_left(count: ByteCount) -> ByteCount
+pub fn count_left(count: ByteCount) -> ByteCount
     ensures { λ r. ⌜ r .0 ≡ countLeft (count .0) ⌝ }
 {
     let n = moved(count).0;
@@ -83,27 +79,12 @@ pub fn runs_out(count: ByteCount) -> bool
     count_left(count).0 == 0
 }
 
-// A count register at an offset after a done step, the number of its cycle given.
-fn count_after(at: u32, cycle: u32, s: Step, old: ByteCount) -> ByteCount
-    ensures { λ r. ⌜ r .0 ≡ cond (eqb (s .kind) 1 && eqb (s .offset) at) (written countKept (old .0) (s .value) (s .enables)) (cond (eqb (s .kind) cycle) (countLeft (old .0)) (old .0)) ⌝ }
+// The count register at an offset after a PCI write.
+pub fn written(at: u32, s: Step, old: ByteCount) -> ByteCount
+    ensures { λ r. ⌜ r .0 ≡ cond (eqb (s .offset) at) (written countKept (old .0) (s .value) (s .enables)) (old .0) ⌝ }
 {
-    if (s.kind == kinds::PCI_WRITE) & (s.offset == at) {
+    if s.offset == at {
         return ByteCount(word::written(KEPT, old.0, s.value, s.enables));
     }
-    if s.kind == cycle {
-        return count_left(old);
-    }
     old
-}
-
-pub fn write_count_after(s: Step, old: ByteCount) -> ByteCount
-    ensures { λ r. ⌜ r .0 ≡ countAfter addon (accessOf s) (old .0) ⌝ }
-{
-    count_after(offsets::WRITE_COUNT, kinds::WRITE_CYCLE, s, old)
-}
-
-pub fn read_count_after(s: Step, old: ByteCount) -> ByteCount
-    ensures { λ r. ⌜ r .0 ≡ countAfter pci (accessOf s) (old .0) ⌝ }
-{
-    count_after(offsets::READ_COUNT, kinds::READ_CYCLE, s, old)
 }

@@ -2,11 +2,11 @@
 ghost use mathlib.Core.Path.{_≡_};
 ghost use mathlib.Core.Bool.{cond};
 ghost use mathlib.Core.List.{[], _∷_, _++_};
-ghost use lib.Dec.{leb, ltb};
-ghost use lib.ListN.{length, drop};
-ghost use Rattle.machine.specs.Sides.{pci, addon};
-ghost use Rattle.machine.specs.Fifos.{depth, isEmpty, isFull, front, amount};
+ghost use Prim.Native.Nat.{suc, _+_, _-_, _%_, _<_};
+ghost use lib.Dec.{eqb, leb, ltb};
+ghost use lib.ListN.{length, getD};
 ghost use Rattle.fifo.specs.Held.{held};
+ghost use Rattle.fifo.specs.Ring.{from};
 
 // A number of 32-bit words in a FIFO.
 pub struct WordFill(pub u32);
@@ -32,43 +32,25 @@ pub fn empty() -> Fifo
     }
 }
 
-// How many words it holds.
-pub fn fill(f: Fifo) -> WordFill
-    ensures { λ r. ⌜ r .0 ≡ length (held f) ⌝ }
+// ---- fills
+
+pub fn is_empty(fill: WordFill) -> bool
+    ensures { λ r. ⌜ r ≡ eqb (fill .0) 0 ⌝ }
 {
-    let n = f.fill.0;
-    WordFill(n)
+    fill.0 == 0
 }
 
-// For how many more there is room.
-fn room(f: Fifo) -> WordFill
-    ensures { λ r. ⌜ r .0 ≡ amount pci (held f) ⌝ }
+pub fn is_full(fill: WordFill) -> bool
+    ensures { λ r. ⌜ r ≡ leb 8 (fill .0) ⌝ }
 {
-    let n = fill(f).0;
-    if n < DEPTH {
-        WordFill(DEPTH - n)
-    } else {
-        WordFill(0)
-    }
-}
-
-pub fn is_empty(f: Fifo) -> bool
-    ensures { λ r. ⌜ r ≡ isEmpty (held f) ⌝ }
-{
-    fill(f).0 == 0
-}
-
-pub fn is_full(f: Fifo) -> bool
-    ensures { λ r. ⌜ r ≡ isFull (held f) ⌝ }
-{
-    DEPTH <= fill(f).0
+    DEPTH <= fill.0
 }
 
 // A fill above eight.
-pub fn is_out_of_form(f: Fifo) -> bool
-    ensures { λ r. ⌜ r ≡ ltb depth (length (held f)) ⌝ }
+pub fn is_out_of_form(fill: WordFill) -> bool
+    ensures { λ r. ⌜ r ≡ ltb 8 (fill .0) ⌝ }
 {
-    DEPTH < fill(f).0
+    DEPTH < fill.0
 }
 
 // One word, or four.
@@ -82,61 +64,87 @@ fn needed(four: bool) -> WordFill
     }
 }
 
-// Whether it holds a word, or four.
-pub fn has_words(f: Fifo, four: bool) -> bool
-    ensures { λ r. ⌜ r ≡ leb (cond four 4 1) (amount addon (held f)) ⌝ }
+// Whether there is a word, or four.
+pub fn has_words(fill: WordFill, four: bool) -> bool
+    ensures { λ r. ⌜ r ≡ leb (cond four 4 1) (fill .0) ⌝ }
 {
     let need = needed(four);
-    need.0 <= fill(f).0
+    need.0 <= fill.0
+}
+
+// For how many more words there is room.
+fn room(fill: WordFill) -> WordFill
+    ensures { λ r. ⌜ r .0 ≡ 8 - fill .0 ⌝ }
+{
+    let n = fill.0;
+    if n < DEPTH {
+        WordFill(DEPTH - n)
+    } else {
+        WordFill(0)
+    }
 }
 
 // Whether one word more would fit, or four.
-pub fn has_room(f: Fifo, four: bool) -> bool
-    ensures { λ r. ⌜ r ≡ leb (cond four 4 1) (amount pci (held f)) ⌝ }
+pub fn has_room(fill: WordFill, four: bool) -> bool
+    ensures { λ r. ⌜ r ≡ leb (cond four 4 1) (8 - fill .0) ⌝ }
 {
     let need = needed(four);
-    need.0 <= room(f).0
+    need.0 <= room(fill).0
 }
 
-// The front word, or zero.
-pub fn front(f: Fifo) -> u32
-    ensures { λ r. ⌜ r ≡ front (held f) ⌝ }
+// The fill when a word has come in, if there was room.
+pub fn one_more(fill: WordFill) -> WordFill
+    ensures { λ r. ⌜ r .0 ≡ cond (ltb (fill .0) 8) (suc (fill .0)) (fill .0) ⌝ }
 {
-    let n = fill(f).0;
-    if n == 0 {
-        return 0;
+    let n = fill.0;
+    if n < DEPTH {
+        WordFill(n + 1)
+    } else {
+        WordFill(n)
     }
-    let at = (f.head % DEPTH) as usize;
-    f.words[at]
 }
 
-// The FIFO with a word behind its words, if there is room.
-pub fn pushed(f: Fifo, word: u32) -> Fifo
-    ensures { λ r. ⌜ held r ≡ cond (isFull (held f)) (held f) (held f ++ word ∷ []) ⌝ }
+// The fill when a word has left, if there was one.
+pub fn one_less(fill: WordFill) -> WordFill
+    ensures { λ r. ⌜ r .0 ≡ fill .0 - 1 ⌝ }
 {
-    let n = fill(f).0;
-    if DEPTH <= n {
-        return f;
-    }
-    let at = ((f.head % DEPTH + n) % DEPTH) as usize;
-    let mut next = f;
-    next.words[at] = word;
-    next.fill.0 = n + 1;
-    next
+    let n = fill.0;
+    if n == 0 { WordFill(0) } else { WordFill(n - 1) }
 }
 
-// The FIFO without its front word.
-pub fn popped(f: Fifo) -> Fifo
-    ensures { λ r. ⌜ held r ≡ drop 1 (held f) ⌝ }
+// The fill when a command may have cleared the FIFO.
+pub fn left(clear: bool, fill: WordFill) -> WordFill
+    ensures { λ r. ⌜ r .0 ≡ cond clear 0 (fill .0) ⌝ }
 {
-    let n = fill(f).0;
-    if n == 0 {
-        return f;
+    if clear {
+        return WordFill(0);
     }
-    let left = n - 1;
-    let head = (f.head % DEPTH + 1) % DEPTH;
-    let mut next = f;
-    next.head = head;
-    next.fill.0 = left;
-    next
+    fill
+}
+
+// ---- the ring
+
+// The word at the head of a ring, zero where there is no such place.
+pub fn front(words: &[u32], head: u32) -> u32
+    ensures { λ r. ⌜ r ≡ getD (now (words .entry)) (head % 8) 0 ⌝ }
+{
+    let at = (head % DEPTH) as usize;
+    if at < words.len() { words[at] } else { 0 }
+}
+
+// The head when the word at it has left.
+pub fn past(head: u32) -> u32
+    ensures { λ r. ⌜ r ≡ (head % 8 + 1) % 8 ⌝ }
+{
+    (head % DEPTH + 1) % DEPTH
+}
+
+// A word behind those that a ring of eight places holds, if there is room.
+pub fn push(words: &mut [u32], head: u32, fill: WordFill, word: u32)
+    ensures { λ r. ⌜ (length (now (words .entry)) ≡ 8 → fill .0 < 8 → from 8 0 (now (words .exit)) head (suc (fill .0)) ≡ from 8 0 (now (words .entry)) head (fill .0) ++ word ∷ []) ⌝ }
+{
+    let at = ((head % DEPTH + fill.0 % DEPTH) % DEPTH) as usize;
+    if at < words.len() {
+        words[at] = word;
+    }
 }

@@ -2,11 +2,12 @@
 use Prim.Native.Nat.{ℕ}
 use mathlib.Core.List.{List}
 use mathlib.Core.Bool.{Bool, cond, _&&_}
-use lib.ListN.{length, take, drop}
+use lib.ListN.{length, take, drop, getD}
 use lib.Dec.{eqb}
 use Rattle.machine.specs.State.{State}
 use Rattle.machine.specs.Step.{Outcome, stepOf, notAFrame}
 use Rattle.machine.specs.declared.Step.{Step}
+use Rattle.lines.specs.Lines.{lf}
 use Rattle.hex.specs.Hex.{allDigits, number}
 use Rattle.frame.specs.declared.Framed.{Framed}
 use Rattle.frame.specs.declared.Framed.the-variants.{Frame, NotAFrame}
@@ -28,6 +29,10 @@ stepIn line = record { kind = number (part 0 2 line); offset = number (part 2 2 
 -- the reader's answer
 unfoldable pub frameOf : List ℕ → Framed
 frameOf line = cond (isFrame line) (Frame (stepIn line)) NotAFrame
+
+-- the frame that bytes begin with, an LF behind it
+unfoldable pub frameIn : List ℕ → Framed
+frameIn bytes = cond (eqb (getD bytes 13 0) lf) (frameOf (take 13 bytes)) NotAFrame
 
 -- What each case of that answer stands for: a frame is a step; no frame (an empty line is none) leaves everything and answers 14.
 unfoldable pub framedOutcome : Framed → State → ℕ → List ℕ → Outcome

@@ -1,11 +1,13 @@
 // INTCSR: what it keeps, the events, the interrupt line.
 ghost use mathlib.Core.Path.{_≡_};
-ghost use Rattle.machine.specs.Access.{accessOf, kindOf};
-ghost use Rattle.machine.specs.Intcsr.{intcsrWritten, outgoingEvent, incomingEvent, intcsrAfter, intcsrAborted, lineOf, intcsrRead, abortIn};
-ghost use Rattle.controller.specs.Controller.{stateOf};
-use controller::Controller;
+ghost use mathlib.Core.Bool.{cond};
+ghost use lib.Dec.{eqb};
+ghost use Rattle.machine.specs.Words.{raised};
+ghost use Rattle.machine.specs.Access.{accessOf};
+ghost use Rattle.machine.specs.Cycles.{runsOut};
+ghost use Rattle.machine.specs.Intcsr.{intcsrWritten, outgoingEvent, incomingEvent, intcsrAborted, lineOf, intcsrRead, abortIn};
+use controller::ByteCount;
 use machine::Step;
-use machine::kinds;
 use machine::offsets;
 
 // The bits that it keeps (4 to 0, 12 to 8, 15 and 14) and those that events set (21 to 16).
@@ -67,27 +69,39 @@ fn incoming_event(i: u32, s: Step) -> bool
         )
 }
 
-// INTCSR after a done step.
-pub fn intcsr_after(c: Controller, s: Step) -> u32
-    ensures { λ r. ⌜ r ≡ intcsrAfter (kindOf (s .kind)) (stateOf c) (accessOf s) ⌝ }
+// INTCSR after a done step, kind by kind. A PCI read and a write elsewhere leave it.
+pub fn after_pci_write(i: u32, s: Step) -> u32
+    ensures { λ r. ⌜ r ≡ cond (eqb (s .offset) 0x38) (intcsrWritten i (s .value) (s .enables)) i ⌝ }
 {
-    let i = c.intcsr;
-    if s.kind == kinds::ADDON_READ {
-        return word::raised(i, outgoing_event(i, s), OUTGOING_FLAG);
-    }
-    if (s.kind == kinds::PCI_WRITE) & (s.offset == offsets::INTCSR) {
+    if s.offset == offsets::INTCSR {
         return written(i, s.value, s.enables);
     }
-    if s.kind == kinds::ADDON_WRITE {
-        return word::raised(i, incoming_event(i, s), INCOMING_FLAG);
-    }
-    if s.kind == kinds::WRITE_CYCLE {
-        return word::raised(i, count::runs_out(c.from_addon.count), WRITE_COUNT_FLAG);
-    }
-    if s.kind == kinds::READ_CYCLE {
-        return word::raised(i, count::runs_out(c.from_pci.count), READ_COUNT_FLAG);
-    }
     i
+}
+
+pub fn after_addon_read(i: u32, s: Step) -> u32
+    ensures { λ r. ⌜ r ≡ raised i (outgoingEvent i (accessOf s)) 16 ⌝ }
+{
+    word::raised(i, outgoing_event(i, s), OUTGOING_FLAG)
+}
+
+pub fn after_addon_write(i: u32, s: Step) -> u32
+    ensures { λ r. ⌜ r ≡ raised i (incomingEvent i (accessOf s)) 17 ⌝ }
+{
+    word::raised(i, incoming_event(i, s), INCOMING_FLAG)
+}
+
+// After a cycle with the count that it finds: the flag is set if the count runs out.
+pub fn after_write_cycle(i: u32, count: ByteCount) -> u32
+    ensures { λ r. ⌜ r ≡ raised i (runsOut (count .0)) 18 ⌝ }
+{
+    word::raised(i, count::runs_out(count), WRITE_COUNT_FLAG)
+}
+
+pub fn after_read_cycle(i: u32, count: ByteCount) -> u32
+    ensures { λ r. ⌜ r ≡ raised i (runsOut (count .0)) 19 ⌝ }
+{
+    word::raised(i, count::runs_out(count), READ_COUNT_FLAG)
 }
 
 // Whether an abort stands.

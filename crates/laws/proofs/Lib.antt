@@ -4,3 +4,5 @@ pub mod Bits
 pub mod Marks
 pub mod KindNumbers
 pub mod Done
+pub mod Form
+pub mod Refused

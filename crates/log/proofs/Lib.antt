@@ -8,5 +8,6 @@ pub mod Texts
 pub mod Pieces
 pub mod Turns
 pub mod Ends
+pub mod Forms
 pub mod Unique
 pub mod Cut

@@ -10,7 +10,7 @@ use mathlib.Core.List.{List, [], _∷_, _++_, append-assoc, append-nil}
 use native.Mathlib.Numerals.{add-one}
 use native.Mathlib.Omega.{arith}
 use native.Mathlib.Decide.{decLe, ℕ-discrete}
-use borrow.Author.Tests.{eqb-true, eq-eqb, ne-eqb}
+use borrow.Author.Tests.{eqb-true}
 use lib.ListN.{length, getD, take, drop, length-drop, length-append}
 use lib.Seq.{length-take-le, drop-cons, drop-drop}
 use lib.Dec.{eqb, ltb}
@@ -24,10 +24,11 @@ use Rattle.lines.specs.Lines.{untilLf, lineAt, lineEnd}
 use Rattle.lines.proofs.Positions.{until-lf, until-more, end-within}
 use Rattle.frame.specs.declared.Framed.{Framed}
 use Rattle.frame.specs.declared.Framed.the-variants.{Frame, NotAFrame}
-use Rattle.frame.specs.Frame.{isFrame, frameOf, framedOutcome}
+use Rattle.frame.proofs.Stands.{getd-within}
+use Rattle.frame.specs.Frame.{isFrame, frameOf, frameIn, framedOutcome}
 use Rattle.log.specs.declared.Turn.{Turn}
 use Rattle.log.specs.Log.{lineOutcome, answering, PieceOutcome, pieceOutcome}
-use Rattle.log.specs.Results.{frameIn, TurnPromised}
+use Rattle.log.specs.Results.{TurnPromised}
 use Rattle.log.proofs.Carried.{fed-lf, fed-other, afterFed}
 use Rattle.log.proofs.Pieces.{frame-clip, take-clip}
 
@@ -76,11 +77,6 @@ until-digits (suc n) (x ∷ xs) d e =
     let parts = both (ltb (digitNumber x) 16) (allDigits (take n xs)) d in
     until-more x xs (digit-other x (parts .0)) ∙ ap suc (until-digits n xs (parts .1) e)
 
-getd-within : (n : ℕ) (xs : List ℕ) → getD xs n 0 ≡ 10 → n < length xs
-getd-within n [] e = absurd (omega arith)
-getd-within zero (x ∷ xs) e = omega arith
-getd-within (suc n) (x ∷ xs) e = let h = getd-within n xs e in omega arith
-
 -- a frame line of 13 bytes that are digits
 pub record FrameLine (xs : List ℕ) (s : Step) : Type 0 where
   pub until : untilLf xs ≡ 13
@@ -105,23 +101,11 @@ pub frame-line : (xs : List ℕ) (s : Step) → frameIn xs ≡ Frame s → Frame
 unfolding frameIn
 frame-line xs s e = frame-by xs s (eqb (getD xs 13 0) 10) refl e
 
-module _ (xs : List ℕ) where
-  pub no-lf-none : (getD xs 13 0 ≡ 10 → ⊥) → NotAFrame ≡ frameIn xs
-  unfolding frameIn
-  no-lf-none h = simp (ne-eqb (getD xs 13 0) 10 h)
-
-  pub few-none : length xs < 14 → NotAFrame ≡ frameIn xs
-  few-none h = no-lf-none (λ e. let k = getd-within 13 xs e in omega arith)
-
-  pub lf-frame : getD xs 13 0 ≡ 10 → frameOf (take 13 xs) ≡ frameIn xs
-  unfolding frameIn
-  lf-frame h = simp (eq-eqb (getD xs 13 0) 10 h)
-
 -- ---- a turn
 
 module _ (piece : List ℕ) (at : ℕ) (carried : List ℕ) (whole : length carried ≡ 14) where
   pub line-takes : (n : ℕ) (f : Framed) → untilLf (drop at piece) ≡ n → at + n < length piece → f ≡ frameOf (take n (drop at piece))
-      → TurnPromised [] piece at (record { next = at + n + 1; bytes = carried; len = 0; ended = true; framed = f })
+      → TurnPromised [] piece at (record { next = at + n + 1; len = 0; ended = true; framed = f }) carried
   unfolding lineOutcome
   line-takes n f u h e =
       let past : at + suc n ≡ at + n + 1 = omega arith in
@@ -135,7 +119,7 @@ module _ (piece : List ℕ) (at : ℕ) (carried : List ℕ) (whole : length carr
       }
 
   pub part-takes : (line : List ℕ) (f : Framed) → line ≡ lineAt piece at → at ≤ length piece → at + length line < length piece → f ≡ frameOf line
-      → TurnPromised [] piece at (record { next = at + length line + 1; bytes = carried; len = 0; ended = true; framed = f })
+      → TurnPromised [] piece at (record { next = at + length line + 1; len = 0; ended = true; framed = f }) carried
   unfolding lineAt lineEnd
   part-takes line f l h k e =
       let n : untilLf (drop at piece) ≡ length line =
@@ -144,7 +128,7 @@ module _ (piece : List ℕ) (at : ℕ) (carried : List ℕ) (whole : length carr
 
   module _ (len : ℕ) (h : at < length piece) where
     pub lf-takes : (f : Framed) → getD piece at 0 ≡ 10 → f ≡ frameOf (take len carried)
-        → TurnPromised (take len carried) piece at (record { next = at + 1; bytes = carried; len = 0; ended = true; framed = f })
+        → TurnPromised (take len carried) piece at (record { next = at + 1; len = 0; ended = true; framed = f }) carried
     unfolding lineOutcome
     lf-takes f x e =
         record {
@@ -157,7 +141,7 @@ module _ (piece : List ℕ) (at : ℕ) (carried : List ℕ) (whole : length carr
 
     pub byte-takes : (bytes : List ℕ) (more : ℕ) → (getD piece at 0 ≡ 10 → ⊥) → length bytes ≡ 14 → more ≤ 14
         → take 14 (take len carried ++ (getD piece at 0 ∷ [])) ≡ take more bytes
-        → TurnPromised (take len carried) piece at (record { next = at + 1; bytes = bytes; len = more; ended = false; framed = NotAFrame })
+        → TurnPromised (take len carried) piece at (record { next = at + 1; len = more; ended = false; framed = NotAFrame }) bytes
     byte-takes bytes more x n few e =
         record {
           above = omega arith;
@@ -167,10 +151,10 @@ module _ (piece : List ℕ) (at : ℕ) (carried : List ℕ) (whole : length carr
           fed = λ st start memory. rw (add-one, ← e) (rw (drop-cons piece at 0 h) (fed-other st start memory (take len carried) (getD piece at 0) (drop (suc at) piece) x));
         }
 
-module _ {begun piece : List ℕ} {at : ℕ} {t : Turn} (T : TurnPromised begun piece at t) (st : State) (start : ℕ) (memory : List ℕ) (done : List Answer) where
+module _ {begun piece : List ℕ} {at : ℕ} {t : Turn} {bytes : List ℕ} (T : TurnPromised begun piece at t bytes) (st : State) (start : ℕ) (memory : List ℕ) (done : List Answer) where
   -- what is fed after this turn, from a state and a memory
   abbrev rest : State → List ℕ → PieceOutcome
-  rest st′ memory′ = pieceOutcome st′ start memory′ (take (t .len) (t .bytes)) (drop (t .next) piece)
+  rest st′ memory′ = pieceOutcome st′ start memory′ (take (t .len) bytes) (drop (t .next) piece)
 
   pub turn-ended : t .ended ≡ true → (o : Outcome) → o ≡ framedOutcome (t .framed) st start memory
       → afterFed done (pieceOutcome st start memory begun (drop at piece)) ≡ afterFed (done ++ (o .answer ∷ [])) (rest (o .state) (o .memory))

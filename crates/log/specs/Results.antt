@@ -3,16 +3,13 @@ use Prim.Native.Nat.{ℕ, _*_, _≤_, _<_}
 use mathlib.Core.Path.{_≡_}
 use mathlib.Core.List.{List, _++_}
 use mathlib.Core.Bool.{Bool, true, cond}
-use lib.ListN.{length, take, drop, getD}
-use lib.Dec.{eqb, ltb, leb}
+use lib.ListN.{length, take, drop}
+use lib.Dec.{ltb, leb}
 use Rattle.machine.specs.State.{State}
-use Rattle.machine.specs.declared.Answer.{Answer}
 use Rattle.controller.specs.Controller.{stateOf}
 use Rattle.controller.specs.declared.Controller.{Controller}
-use Rattle.lines.specs.Lines.{lf, lines}
-use Rattle.frame.specs.declared.Framed.{Framed}
-use Rattle.frame.specs.declared.Framed.the-variants.{NotAFrame}
-use Rattle.frame.specs.Frame.{frameOf, framedOutcome}
+use Rattle.lines.specs.Lines.{lines}
+use Rattle.frame.specs.Frame.{framedOutcome}
 use Rattle.logline.specs.LogLine.{lineRoom}
 use Rattle.logline.specs.Wrote.{Wrote}
 use Rattle.log.specs.declared.Logged.{Logged}
@@ -89,24 +86,20 @@ pub record FeedPromised (set : ℕ) (s : Stream) (start : ℕ) (memory piece out
 
 -- ---- inside: a piece with room for its log
 
--- the frame that bytes begin with, an LF behind it
-unfoldable pub frameIn : List ℕ → Framed
-frameIn bytes = cond (eqb (getD bytes 13 0) lf) (frameOf (take 13 bytes)) NotAFrame
-
 -- what is fed from a turn on: the answer to a line that has ended, then the rest of the piece after what is carried
-abbrev pub fedPast : Turn → State → ℕ → List ℕ → List ℕ → PieceOutcome
-fedPast t st start memory rest =
+abbrev pub fedPast : Turn → List ℕ → State → ℕ → List ℕ → List ℕ → PieceOutcome
+fedPast t bytes st start memory rest =
     let o = framedOutcome (t .framed) st start memory in
-    let begun = take (t .len) (t .bytes) in
+    let begun = take (t .len) bytes in
     cond (t .ended) (answering (o .answer) (pieceOutcome (o .state) start (o .memory) begun rest)) (pieceOutcome st start memory begun rest)
 
--- a turn, at a place of a piece, after the bytes `begun`
-pub record TurnPromised (begun piece : List ℕ) (at : ℕ) (t : Turn) : Type 0 where
+-- a turn, at a place of a piece, after the bytes `begun`, that leaves bytes of which `len` are carried
+pub record TurnPromised (begun piece : List ℕ) (at : ℕ) (t : Turn) (bytes : List ℕ) : Type 0 where
   pub above : at < t .next
   pub within : t .next ≤ length piece
   pub few : t .len ≤ 14
-  pub whole : length (t .bytes) ≡ 14
-  pub fed : (st : State) (start : ℕ) (memory : List ℕ) → pieceOutcome st start memory begun (drop at piece) ≡ fedPast t st start memory (drop (t .next) piece)
+  pub whole : length bytes ≡ 14
+  pub fed : (st : State) (start : ℕ) (memory : List ℕ) → pieceOutcome st start memory begun (drop at piece) ≡ fedPast t bytes st start memory (drop (t .next) piece)
 
 pub record PieceLogged (set : ℕ) (f : PieceOutcome) (r : Streaming) (memory′ out : List ℕ) (at : ℕ) (out′ : List ℕ) : Type 0 where
   pub state : stateOf (r .stream .controller) ≡ f .state

@@ -3,30 +3,36 @@ ghost use mathlib.Core.Path.{_≡_};
 ghost use mathlib.Core.Bool.{true};
 ghost use mathlib.Core.List.{[]};
 ghost use Prim.Native.Nat.{_+_, _*_, _≤_, _<_, min};
-ghost use lib.ListN.{length, take, drop};
-ghost use Rattle.machine.specs.State.{resetState};
+ghost use lib.ListN.{length, take};
+ghost use Rattle.machine.specs.State.{State, resetState};
 ghost use Rattle.machine.specs.Step.{notAFrame};
 ghost use Rattle.controller.specs.Controller.{stateOf};
 ghost use Rattle.step.specs.Outcome.{outcomeOf};
+ghost use Rattle.bank.specs.Bank.{stateIn};
+ghost use Rattle.refusal.specs.Codes.{formCode};
+ghost use Rattle.step.specs.Parts.{outcomeIn};
+ghost use Rattle.step.specs.InBank.{Whole};
 ghost use Rattle.lines.specs.Lines.{linesFrom};
 ghost use Rattle.frame.specs.Frame.{framedOutcome};
 ghost use Rattle.logline.specs.LogLine.{lineRoom};
 ghost use Rattle.log.specs.Log.{lineOutcome, linesOutcome, pieceOutcome};
-ghost use Rattle.log.specs.Results.{RunPromised, TextLogged, begunOf, frameIn, TurnPromised, PieceLogged, FeedPromised};
+ghost use Rattle.log.specs.Results.{RunPromised, TextLogged, begunOf, TurnPromised, PieceLogged, FeedPromised};
+use bank::Bank;
 use controller::Controller;
 use frame::Framed;
 use logline::LINE_ROOM;
 use machine::Answer;
 use machine::codes;
+use step::Banked;
 use step::Stepped;
 
 // ---- a line
 
-// The answer to a line that is no frame: code 14, with the interrupt line of the state.
-fn not_a_frame(c: Controller) -> Answer
-    ensures { λ r. ⌜ r ≡ notAFrame (stateOf c) ⌝ }
+// The answer to a line that is no frame: code 14, with the interrupt line of INTCSR.
+fn not_a_frame(i: u32) -> Answer
+    ensures { λ r. ⌜ ((st : State) → st .intcsr ≡ i → r ≡ notAFrame st) ⌝ }
 {
-    let line = intcsr::line(c.intcsr);
+    let line = intcsr::line(i);
     Answer {
         code: codes::NOT_A_FRAME_LINE,
         address: 0,
@@ -43,7 +49,7 @@ fn answer(c: Controller, memory: &mut [u32], start: u32, f: Framed) -> Stepped
     match f {
         Framed::Frame(s) => step::step(c, memory, start, s),
         Framed::NotAFrame => {
-            let answer = not_a_frame(c);
+            let answer = not_a_frame(c.intcsr);
             Stepped {
                 controller: c,
                 answer,
@@ -113,22 +119,20 @@ fn kept(len: usize) -> usize
     if len < 14 { len } else { 14 }
 }
 
-// What is taken of a piece in a turn: a line that has ended, and what it says; or a byte more of one that has not.
+// What is taken of a piece in a turn: a line that has ended, and what it says; or a byte more of one that has not, which is carried.
 struct Turn {
     next: usize,
-    bytes: [u8; 14],
     len: usize,
     ended: bool,
     framed: Framed,
 }
 
 // A line that has ended before a place: nothing of it is carried.
-fn line_taken(bytes: [u8; 14], next: usize, framed: Framed) -> Turn
-    ensures { λ r. ⌜ r ≡ record { next = next; bytes = bytes; len = 0; ended = true; framed = framed } ⌝ }
+fn line_taken(next: usize, framed: Framed) -> Turn
+    ensures { λ r. ⌜ r ≡ record { next = next; len = 0; ended = true; framed = framed } ⌝ }
 {
     Turn {
         next,
-        bytes,
         len: 0,
         ended: true,
         framed,
@@ -136,62 +140,76 @@ fn line_taken(bytes: [u8; 14], next: usize, framed: Framed) -> Turn
 }
 
 // The next byte of a line that has begun, of which `len` bytes are carried.
-fn byte_taken(piece: &[u8], at: usize, carried: [u8; 14], len: usize) -> Turn
+fn byte_taken(piece: &[u8], at: usize, carried: &mut [u8], len: usize) -> Turn
     requires { ⌜ at < length (now piece) ⌝ }
     requires { ⌜ len ≤ 14 ⌝ }
-    ensures { λ r. ⌜ TurnPromised (take len carried) (now (piece .entry)) at r ⌝ }
+    requires { ⌜ length (now carried) ≡ 14 ⌝ }
+    ensures { λ r. ⌜ TurnPromised (take len (now (carried .entry))) (now (piece .entry)) at r (now (carried .exit)) ⌝ }
 {
     let x = piece[at];
     if x == b'\n' {
-        return line_taken(carried, at + 1, frame::frame(&carried[..len]));
+        return line_taken(at + 1, frame::frame(&carried[..len]));
     }
-    let mut bytes = carried;
-    let mut more = len;
     if len < 14 {
-        bytes[len] = x;
-        more = len + 1;
+        carried[len] = x;
+        return Turn {
+            next: at + 1,
+            len: len + 1,
+            ended: false,
+            framed: Framed::NotAFrame,
+        };
     }
     Turn {
         next: at + 1,
-        bytes,
-        len: more,
+        len,
         ended: false,
         framed: Framed::NotAFrame,
     }
 }
 
-// The frame that stands in the piece from a place on, with the LF behind it.
-fn frame_in(piece: &[u8], at: usize) -> Framed
-    requires { ⌜ at < length (now piece) ⌝ }
-    ensures { λ r. ⌜ r ≡ frameIn (drop at (now (piece .entry))) ⌝ }
-{
-    if piece.len() - at < 14 {
-        return Framed::NotAFrame;
-    }
-    if piece[at + 13] != b'\n' {
-        return Framed::NotAFrame;
-    }
-    frame::frame(&piece[at..at + 13])
-}
-
 // A line that stands in the piece whole is read where it stands; of any other, byte by byte, the first bytes are carried.
-fn taken(piece: &[u8], at: usize, carried: [u8; 14], len: usize) -> Turn
+fn taken(piece: &[u8], at: usize, carried: &mut [u8], len: usize) -> Turn
     requires { ⌜ at < length (now piece) ⌝ }
     requires { ⌜ len ≤ 14 ⌝ }
-    ensures { λ r. ⌜ TurnPromised (take len carried) (now (piece .entry)) at r ⌝ }
+    requires { ⌜ length (now carried) ≡ 14 ⌝ }
+    ensures { λ r. ⌜ TurnPromised (take len (now (carried .entry))) (now (piece .entry)) at r (now (carried .exit)) ⌝ }
 {
     if len != 0 {
         return byte_taken(piece, at, carried, len);
     }
-    if let Framed::Frame(s) = frame_in(piece, at) {
-        return line_taken(carried, at + 14, Framed::Frame(s));
+    if let Framed::Frame(s) = frame::frame_at(piece, at) {
+        return line_taken(at + 14, Framed::Frame(s));
     }
     let line = lines::line_at(piece, at);
     let end = at + line.len();
     if end < piece.len() {
-        return line_taken(carried, end + 1, frame::frame(line));
+        return line_taken(end + 1, frame::frame(line));
     }
     byte_taken(piece, at, carried, len)
+}
+
+// What a line says is answered, by a bank: a step, or code 14. Codes 1 and 2 are tested already, and stay as they are.
+fn banked(
+    b: Bank,
+    mail: &mut [u32],
+    pci: &mut [u32],
+    addon: &mut [u32],
+    memory: &mut [u32],
+    start: u32,
+    form: u32,
+    f: Framed,
+) -> Banked
+    requires { ⌜ Whole (now mail) (now pci) (now addon) ⌝ }
+    requires { ⌜ form ≡ formCode (stateIn b (now mail) (now pci) (now addon)) start (length (now memory)) ⌝ }
+    ensures { λ r. ⌜ outcomeIn r (now (mail .exit)) (now (pci .exit)) (now (addon .exit)) (now (memory .exit)) ≡ framedOutcome f (stateIn b (now (mail .entry)) (now (pci .entry)) (now (addon .entry))) start (now (memory .entry)) ⌝ }
+{
+    match f {
+        Framed::Frame(s) => step::in_bank(b, mail, pci, addon, memory, start, form, s),
+        Framed::NotAFrame => {
+            let answer = not_a_frame(b.intcsr);
+            Banked { bank: b, answer }
+        }
+    }
 }
 
 // A piece, with room for its log from a place on: turn by turn, and each line that has ended is answered.
@@ -207,27 +225,31 @@ fn feed_bytes(
     requires { ⌜ at + lineRoom * length (pieceOutcome (stateOf (s .controller)) start (now memory) (begunOf s) (now piece) .answers) ≤ length (now out) ⌝ }
     ensures { λ r. ⌜ PieceLogged set (pieceOutcome (stateOf (s .controller)) start (now (memory .entry)) (begunOf s) (now (piece .entry))) r (now (memory .exit)) (now (out .entry)) at (now (out .exit)) ⌝ }
 {
-    let mut c = s.controller;
+    let c = s.controller;
+    let mut mail = bank::mail_of(c);
+    let mut pci = bank::pci_of(c);
+    let mut addon = bank::addon_of(c);
+    let mut b = bank::bank_of(c);
+    let form = refusal::form(b, start, memory.len());
     let mut bytes = s.bytes;
     let mut len = kept(s.len);
     let mut n = at;
     let mut i = 0;
     while i < piece.len() {
-        let t = taken(piece, i, bytes, len);
-        let carried = t.bytes;
+        let t = taken(piece, i, &mut bytes, len);
         i = t.next;
-        bytes = carried;
         len = t.len;
         if t.ended {
             let f = t.framed;
-            let r = answer(c, memory, start, f);
-            let next = r.controller;
-            c = next;
+            let r = banked(b, &mut mail, &mut pci, &mut addon, memory, start, form, f);
+            let next = r.bank;
+            b = next;
             n = logline::put_line(out, n, r.answer, set);
         }
     }
+    let controller = bank::controller_of(b, mail, pci, addon);
     let stream = Stream {
-        controller: c,
+        controller,
         bytes,
         len,
     };

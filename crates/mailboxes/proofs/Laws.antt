@@ -1,18 +1,13 @@
 -- A write by the owner and a read by the other side are of a mailbox.
-use Prim.Native.Nat.{_<_}
 use mathlib.Core.Path.{_≡_}
 use mathlib.Core.Bool.{true}
-use borrow.Author.Tests.{ltb-true}
 use Rattle.machine.specs.Access.{Access, isReadBy, isWriteBy}
 use Rattle.machine.specs.Offsets.{isMailbox, writer, reader}
 use Rattle.machine.specs.Mailboxes.{fills, takes}
-use Rattle.laws.proofs.Tests.{and-left, and-right}
+use Rattle.laws.proofs.Tests.{and-right}
 
 pub fills-box : (x : Access) → fills x ≡ true → isMailbox (x .offset) ≡ true
 fills-box x e = and-right (isWriteBy (writer (x .offset)) (x .kind)) (isMailbox (x .offset)) e
 
 pub takes-box : (x : Access) → takes x ≡ true → isMailbox (x .offset) ≡ true
 takes-box x e = and-right (isReadBy (reader (x .offset)) (x .kind)) (isMailbox (x .offset)) e
-
-pub fills-low : (x : Access) → fills x ≡ true → x .offset < 0x20
-fills-low x e = ltb-true (x .offset) 0x20 (and-left _ _ (fills-box x e))

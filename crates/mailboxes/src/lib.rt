@@ -103,26 +103,22 @@ pub fn marks_after(s: Step, marks: u32) -> u32
     marks
 }
 
-// The words after a done step.
-pub fn mail_after(s: Step, mail: [u32; 8]) -> [u32; 8]
-    ensures { λ r. ⌜ r ≡ mailAfter (accessOf s) mail ⌝ }
+// An owner's write stores the enabled bytes in its mailbox's word.
+pub fn store(mail: &mut [u32], s: Step)
+    ensures { λ r. ⌜ now (mail .exit) ≡ mailAfter (accessOf s) (now (mail .entry)) ⌝ }
 {
     if fills(s) {
         let at = (s.offset / WORD_BYTES) as usize;
-        let mut next = mail;
-        next[at] = word::merged(mail[at], s.value, s.enables);
-        return next;
+        if at < mail.len() {
+            mail[at] = word::merged(mail[at], s.value, s.enables);
+        }
     }
-    mail
 }
 
-// The word number offset / 4, rounded down, which at a mailbox's offset is that mailbox's; zero from offset 20 hex on.
-pub fn mail_word(mail: [u32; 8], offset: u32) -> u32
-    ensures { λ r. ⌜ r ≡ getD mail (mailbox offset) 0 ⌝ }
+// The word number offset / 4, rounded down, which at a mailbox's offset is that mailbox's; zero where there is none.
+pub fn mail_word(mail: &[u32], offset: u32) -> u32
+    ensures { λ r. ⌜ r ≡ getD (now (mail .entry)) (mailbox offset) 0 ⌝ }
 {
-    if offset < offsets::FIFO_PORT {
-        let at = (offset / WORD_BYTES) as usize;
-        return mail[at];
-    }
-    0
+    let at = (offset / WORD_BYTES) as usize;
+    if at < mail.len() { mail[at] } else { 0 }
 }

@@ -1,13 +1,15 @@
 // MCSR: what it keeps, and its status.
 ghost use mathlib.Core.Path.{_≡_};
 ghost use mathlib.Core.Bool.{cond};
-ghost use Rattle.fifo.specs.Held.{held};
-ghost use Rattle.machine.specs.Sides.{pci, addon};
+ghost use mathlib.Core.List.{List};
+ghost use Prim.Native.Nat.{ℕ};
+ghost use lib.ListN.{length};
+ghost use Rattle.machine.specs.Sides as sides;
 ghost use Rattle.machine.specs.Access.{accessOf};
-ghost use Rattle.machine.specs.Mcsr.{mcsrAfter, fifoStatus, mcsrRead};
-ghost use Rattle.controller.specs.Controller.{stateOf};
-use controller::Controller;
-use fifo::Fifo;
+ghost use Rattle.machine.specs.Mcsr.{fifoStatus, mcsrAfter, mcsrRead};
+ghost use Rattle.bank.specs.Bank.{stateIn};
+use bank::Bank;
+use fifo::WordFill;
 use machine::Step;
 use machine::kinds;
 use machine::offsets;
@@ -54,31 +56,31 @@ fn flag(on: bool, one: u32) -> u32
     if on { one } else { 0 }
 }
 
-// The status of the FIFO from PCI.
-fn from_pci_status(f: Fifo) -> u32
-    ensures { λ r. ⌜ r ≡ fifoStatus pci (held f) ⌝ }
+// The status of the FIFO from PCI, by its fill.
+fn from_pci_status(fill: WordFill) -> u32
+    ensures { λ r. ⌜ ((words : List ℕ) → length words ≡ fill .0 → r ≡ fifoStatus sides.pci words) ⌝ }
 {
-    flag(fifo::is_empty(f), EMPTY)
-        | flag(fifo::has_room(f, true), FOUR)
-        | flag(fifo::is_full(f), FULL)
+    flag(fifo::is_empty(fill), EMPTY)
+        | flag(fifo::has_room(fill, true), FOUR)
+        | flag(fifo::is_full(fill), FULL)
 }
 
-// The status of the FIFO from the Add-On.
-fn from_addon_status(f: Fifo) -> u32
-    ensures { λ r. ⌜ r ≡ fifoStatus addon (held f) ⌝ }
+// The status of the FIFO from the Add-On, by its fill.
+fn from_addon_status(fill: WordFill) -> u32
+    ensures { λ r. ⌜ ((words : List ℕ) → length words ≡ fill .0 → r ≡ fifoStatus sides.addon words) ⌝ }
 {
-    flag(fifo::is_empty(f), EMPTY)
-        | flag(fifo::has_words(f, true), FOUR)
-        | flag(fifo::is_full(f), FULL)
+    flag(fifo::is_empty(fill), EMPTY)
+        | flag(fifo::has_words(fill, true), FOUR)
+        | flag(fifo::is_full(fill), FULL)
 }
 
 // MCSR as it is read.
-pub fn mcsr_read(c: Controller) -> u32
-    ensures { λ r. ⌜ r ≡ mcsrRead (stateOf c) ⌝ }
+pub fn mcsr_read(b: Bank) -> u32
+    ensures { λ r. ⌜ ((mail pci addon : List ℕ) → r ≡ mcsrRead (stateIn b mail pci addon)) ⌝ }
 {
-    let write_zero = flag(count::is_zero(c.from_addon.count), WRITE_COUNT_ZERO);
-    let read_zero = flag(count::is_zero(c.from_pci.count), READ_COUNT_ZERO);
-    let out = from_addon_status(c.from_addon.fifo);
-    let back = from_pci_status(c.from_pci.fifo);
-    c.mcsr | (write_zero | read_zero | (out * ABOVE | back))
+    let write_zero = flag(count::is_zero(b.write_count), WRITE_COUNT_ZERO);
+    let read_zero = flag(count::is_zero(b.read_count), READ_COUNT_ZERO);
+    let out = from_addon_status(b.addon_fill);
+    let back = from_pci_status(b.pci_fill);
+    b.mcsr | (write_zero | read_zero | (out * ABOVE | back))
 }

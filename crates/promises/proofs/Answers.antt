@@ -28,7 +28,7 @@ use Rattle.laws.proofs.KindNumbers.{named}
 use Rattle.laws.proofs.Bits.{bit-low, bit-beyond, by-bits}
 use Rattle.promises.proofs.Bytes.{listed, agree, bit-shown, shown-lt, byte-merged}
 use Rattle.promises.proofs.Readings.{low-enables}
-use Rattle.promises.proofs.Refused.{line-cond}
+use Rattle.laws.proofs.Refused.{line-cond}
 
 -- ---- registers
 

@@ -1,7 +1,7 @@
 -- Demand 1: a refused step changes nothing, code 13 sets INTCSR bit 20 only, and the code is the lowest of 0 to 13 that applies.
 use Prim.Native.Nat.{ℕ, suc, _≤_}
 use mathlib.Core.Path.{_≡_, refl, sym, _∙_}
-use mathlib.Core.Bool.{Bool, true, false, cond, not, _&&_, true≢false, or-true, true-or}
+use mathlib.Core.Bool.{Bool, true, false, cond, _&&_, true≢false, or-true, true-or}
 use mathlib.Core.List.{List, [], _∷_}
 use native.Mathlib.Omega.{arith}
 use lib.Dec.{eqb, leb}
@@ -15,6 +15,7 @@ use Rattle.machine.specs.Step.{notAFrame, stepOf, respond, stateAfter, memoryAf
 use Rattle.promises.specs.Theorems.{Numbered, Refused, NotAFrameAnswer, Aborted, AbortOnly, Lowest, LowestCode, EveryCode}
 use Rattle.laws.proofs.Tests.{and-left, and-right}
 use Rattle.laws.proofs.KindNumbers.{aborted-reply}
+use Rattle.laws.proofs.Refused as laws
 use Rattle.laws.proofs.Bits.{bit-raised}
 
 -- ---- the lowest code
@@ -99,15 +100,8 @@ numbered st start memory s = at-most 13 1 (tests st start (length memory) (acces
 
 -- ---- refusals
 
-pub line-cond : (b l : Bool) → (not b && l) ≡ cond b false l
-line-cond true l = refl
-line-cond false l = refl
-
 pub refused : Refused
-unfolding stepOf respond stateAfter memoryAfter answered replyOf
-refused st start memory s e f =
-    let code = codeOf st start (length memory) (accessOf s) in
-    rw (e, f) (λ i. record { state = st; memory = memory; answer = record { code = code; address = 0; value = 0; enables = 0; line = line-cond (eqb code 1) (lineOf (st .intcsr)) i } })
+refused = laws.refused
 
 pub not-a-frame-answer : NotAFrameAnswer
 unfolding notAFrame answered

@@ -111,13 +111,19 @@ fn write_number(x: u32) {
 
 // A lane as it is read: of the words those that the FIFO holds, front first, zeros after them.
 fn write_lane(l: Lane) {
-    let fill = fifo::fill(l.fifo);
-    write_number(fill.0);
-    let mut f = l.fifo;
+    let f = l.fifo;
+    let fill = f.fill.0;
+    write_number(fill);
+    let words = f.words;
+    let mut head = f.head;
     let mut i: u32 = 0;
     while i < 8 {
-        write_number(fifo::front(f));
-        f = fifo::popped(f);
+        write_number(if i < fill {
+            fifo::front(&words, head)
+        } else {
+            0
+        });
+        head = fifo::past(head);
         i += 1;
     }
     write_number(l.address);

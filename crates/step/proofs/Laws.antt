@@ -1,63 +1,167 @@
--- What the proofs of the step need of the machine's rules.
-use Prim.Native.Nat.{ℕ, zero, suc, _<_}
-use mathlib.Core.Path.{_≡_, refl}
-use mathlib.Core.Bool.{Bool, true, false, _&&_, _||_, true≢false}
-use mathlib.Core.List.{List}
-use lib.ListN.{length}
-use lib.Dec.{eqb}
-use borrow.Author.Tests.{eqb-true, lt-leb}
-use Rattle.machine.specs.Sides.{Side, other}
-use Rattle.machine.specs.State.{State, held}
-use Rattle.machine.specs.Access.{Access, kindOf, isReset, reads, writes}
-use Rattle.machine.specs.Offsets.{fifoPort}
+-- What the proofs of a banked step need of the machine's rules.
+use Prim.Native.Nat.{ℕ, suc, _-_, _<_}
+use mathlib.Core.Path.{_≡_, refl, _∙_}
+use mathlib.Core.Bool.{Bool, true, false, cond, _&&_, and-false}
+use mathlib.Core.List.{List, [], _∷_, _++_}
+use native.Mathlib.Omega.{arith}
+use lib.Dec.{eqb, ltb}
+use lib.ListN.{length, drop}
+use Rattle.laws.proofs.Tests.{none-applies, neither, and-at, or-right}
+use Rattle.laws.proofs.Done.{room-to-write}
+use borrow.Author.Tests.{eqb-false, lt-ltb, ne-eqb}
+use Rattle.machine.specs.Words.{bit, raised, shown, written}
 use Rattle.machine.specs.Commands.{clearsFifo}
-use Rattle.machine.specs.Fifos.{isFull, cycleFeeds, cycleTakes, fifoAfter}
-use Rattle.machine.specs.Code.{codeOf, tests}
-use Rattle.machine.specs.Step.{showing, doneReply}
+use Rattle.fifo.specs.Ring.{from}
+use Rattle.machine.specs.Sides.{Side, pci, addon, other, Party}
+use Rattle.machine.specs.State.{State, held}
+use Rattle.machine.specs.Offsets.{fifoPort}
+use Rattle.machine.specs.Access.{Access, writing, isReset, cycles, accessOf, reads, writes}
+use Rattle.machine.specs.Mailboxes.{marksAfter, mailAfter}
+use Rattle.machine.specs.Mcsr.{mcsrAfter}
+use Rattle.machine.specs.Cycles.{addressKept, countKept, addressAfter, countAfter}
+use Rattle.machine.specs.Intcsr.{intcsrWritten, outgoingEvent, incomingEvent, intcsrAfter}
+use Rattle.machine.specs.Fifos.{isFull, front}
+use Rattle.machine.specs.Code.{stepTests, isPortStuck, isFullOrEmpty}
 use Rattle.machine.specs.declared.Step.{Step}
-use Rattle.reads.specs.Shown.{shownBy}
-use Rattle.laws.proofs.Tests.{and-left, and-right, none-applies}
-use Rattle.laws.proofs.Done.{room-to-write, room-to-read}
+use Rattle.machine.specs.declared.Answer.{Answer}
+use Rattle.refusal.specs.Codes.{accessCode}
+use Rattle.fifo.proofs.Ring.{length-from}
+use Rattle.bank.specs.declared.Bank.{Bank}
+use Rattle.bank.specs.Bank.{stateIn}
+use Rattle.machine.specs.Step.{Reply, nothing, showing, register, readValue, doneReply, doneState, replyOf, answered, stateAfter, memoryAfter, respond}
 
--- a FIFO that a step neither clears, feeds nor empties
-pub fifo-same : (side : Side) (x : Access) (word : ℕ) (ws : List ℕ) → clearsFifo side x ≡ false → cycleFeeds side x ≡ false → writes side fifoPort x ≡ false
-    → (cycleTakes side x || reads (other side) fifoPort x) ≡ false → ws ≡ fifoAfter side x word ws
-fifo-same side x word ws c f w t = rw (c, f, w, t)
+-- a refusal: the state and the memory stay
+pub refusal : (st : State) (start : ℕ) (memory : List ℕ) (x : Access) (code : ℕ) → (code ≡ 0 → ⊥) → code < 13
+    → record { state = st; memory = memory; answer = answered st code nothing } ≡ respond st start memory x code
+unfolding respond replyOf stateAfter memoryAfter
+refusal st start memory x code other h = simp (ne-eqb code 0 other, ne-eqb code 13 (λ e. omega arith))
 
--- a step of a kind at the FIFO port
-pub at-port : (kind : ℕ) (s : Step) → (eqb (s .kind) kind && eqb (s .offset) 0x20) ≡ true → (s .kind ≡ kind) × (s .offset ≡ 0x20)
-at-port kind s e =
-    let k = eqb (s .kind) kind in
-    let o = eqb (s .offset) 0x20 in
-    (eqb-true (s .kind) kind (and-left k o e), eqb-true (s .offset) 0x20 (and-right k o e))
+-- ---- code 8: a port that is read holds a word, a port that is written has room
 
--- code 0: there is room for what comes in
-room-if : (a b f : Bool) → (a ≡ true → f ≡ false) → (b ≡ true → f ≡ false) → ((a || b) && f) ≡ false
-room-if true b f p q = p refl
-room-if false true f p q = q refl
-room-if false false f p q = refl
+port-free : (st : State) (x : Access) → accessCode st x ≡ 0 → isFullOrEmpty st x ≡ false
+port-free st x e = none-applies (drop 3 (stepTests st 0 0 x)) refl e 8
 
-not-full : (ws : List ℕ) → length ws < 8 → isFull ws ≡ false
-not-full ws h = lt-leb 8 (length ws) h
+word-to-read : (side : Side) (st : State) (x : Access) → isFullOrEmpty st x ≡ false → reads (other side) fifoPort x ≡ true → 0 < length (held side st)
+unfolding isFullOrEmpty
+word-to-read side st x e r =
+    let some = eqb-false (length (held side st)) 0 (and-at (reads (other side) fifoPort x) _ r (or-right (writes side fifoPort x && isFull (held side st)) _ (neither (λ s. isPortStuck s st x) e side))) in
+    positive (length (held side st)) some
+  where
+    positive : (n : ℕ) → (n ≡ 0 → ⊥) → 0 < n
+    positive n h = omega arith
 
-module _ (st : State) (start words : ℕ) (x : Access) (e : codeOf st start words x ≡ 0) where
-  pub room : (side : Side) → ((cycleFeeds side x || writes side fifoPort x) && isFull (held side st)) ≡ false
-  unfolding codeOf
-  room side =
-      let none = none-applies (tests st start words x) refl e in
-      room-if (cycleFeeds side x) (writes side fifoPort x) (isFull (held side st))
-      (λ c. not-full (held side st) (room-to-read side st x (none 12) c))
-      (λ w. not-full (held side st) (room-to-write side st x (none 8) w))
+module _ (b : Bank) (s : Step) (e : accessCode (stateIn b [] [] []) (accessOf s) ≡ 0) (port : s .offset ≡ 0x20) where
+  abbrev st : State
+  st = stateIn b [] [] []
 
--- a done step that is no cycle and no reset shows what a read shows
-pub access-reply : (k : ℕ) (st : State) (start : ℕ) (memory : List ℕ) (x : Access) → (k ≡ 4 → ⊥) → (k ≡ 5 → ⊥) → isReset (kindOf k) ≡ false
-    → showing (shownBy (kindOf k) st x) ≡ doneReply (kindOf k) st start memory x
-unfolding doneReply shownBy
-access-reply zero st start memory x four five r = refl
-access-reply (suc zero) st start memory x four five r = refl
-access-reply (suc (suc zero)) st start memory x four five r = refl
-access-reply (suc (suc (suc zero))) st start memory x four five r = refl
-access-reply (suc (suc (suc (suc zero)))) st start memory x four five r = absurd (four refl)
-access-reply (suc (suc (suc (suc (suc zero))))) st start memory x four five r = absurd (five refl)
-access-reply (suc (suc (suc (suc (suc (suc zero)))))) st start memory x four five r = absurd (true≢false r)
-access-reply (suc (suc (suc (suc (suc (suc (suc k))))))) st start memory x four five r = refl
+  free : isFullOrEmpty st (accessOf s) ≡ false
+  free = port-free st (accessOf s) e
+
+  pub pci-port-read : s .kind ≡ 0 → 0 < b .«addon_fill» .0
+  unfolding stateIn
+  pci-port-read k = simp length-from at (word-to-read addon st (accessOf s) free (rw (k, port)))
+
+  pub addon-port-read : s .kind ≡ 2 → 0 < b .«pci_fill» .0
+  unfolding stateIn
+  addon-port-read k = simp length-from at (word-to-read pci st (accessOf s) free (rw (k, port)))
+
+  pub pci-port-write : s .kind ≡ 1 → b .«pci_fill» .0 < 8
+  unfolding stateIn
+  pci-port-write k = simp length-from at (room-to-write pci st (accessOf s) free (rw (k, port)))
+
+  pub addon-port-write : s .kind ≡ 3 → b .«addon_fill» .0 < 8
+  unfolding stateIn
+  addon-port-write k = simp length-from at (room-to-write addon st (accessOf s) free (rw (k, port)))
+
+-- so that its fill is one more
+pub one-more-in : (n m : ℕ) → m ≡ cond (ltb n 8) (suc n) n → n < 8 → m ≡ suc n
+one-more-in n m e h = e ∙ rw (lt-ltb n 8 h)
+
+-- ---- done steps that are no reset
+
+pub done-step : (st : State) (start : ℕ) (memory : List ℕ) (x : Access) (code : ℕ) (after : State) (reply : Reply) (answer : Answer)
+    → code ≡ 0 → isReset (x .kind) ≡ false → cycles addon (x .kind) ≡ false → reply ≡ doneReply (x .kind) st start memory x → after ≡ doneState st x (reply .value)
+    → answer ≡ answered after 0 reply → record { state = after; memory = memory; answer = answer } ≡ respond st start memory x code
+unfolding respond replyOf stateAfter memoryAfter
+done-step st start memory x code after reply answer zero reset store r a w = rw zero (simp (reset, store, ← r, ← a, w))
+
+-- accesses away from the FIFO port: what may change, and that nothing else does
+module _ (st : State) (s : Step) (elsewhere : s .offset ≡ 0x20 → ⊥) (word : ℕ) where
+  pub pci-read-state : s .kind ≡ 0
+      → record { mail = st .mail; marks = marksAfter (accessOf s) (st .marks); fromPci = st .fromPci; fromAddon = st .fromAddon; intcsr = st .intcsr; mcsr = st .mcsr } ≡ doneState st (accessOf s) word
+  unfolding doneState mailAfter addressAfter countAfter intcsrAfter mcsrAfter
+  pci-read-state k = rw k (simp (ne-eqb (s .offset) 0x20 elsewhere))
+
+  pub addon-read-state : s .kind ≡ 2
+      → record { mail = st .mail; marks = marksAfter (accessOf s) (st .marks); fromPci = st .fromPci; fromAddon = st .fromAddon; intcsr = raised (st .intcsr) (outgoingEvent (st .intcsr) (accessOf s)) 16; mcsr = st .mcsr } ≡ doneState st (accessOf s) word
+  unfolding doneState mailAfter addressAfter countAfter intcsrAfter mcsrAfter
+  addon-read-state k = rw k (simp (ne-eqb (s .offset) 0x20 elsewhere))
+
+  pub addon-write-state : s .kind ≡ 3
+      → record { mail = mailAfter (accessOf s) (st .mail); marks = marksAfter (accessOf s) (st .marks); fromPci = st .fromPci; fromAddon = st .fromAddon; intcsr = raised (st .intcsr) (incomingEvent (st .intcsr) (accessOf s)) 17; mcsr = st .mcsr } ≡ doneState st (accessOf s) word
+  unfolding doneState addressAfter countAfter intcsrAfter mcsrAfter
+  addon-write-state k = rw k (simp (ne-eqb (s .offset) 0x20 elsewhere))
+
+  pub pci-write-state : s .kind ≡ 1
+      → record {
+        mail = mailAfter (accessOf s) (st .mail);
+        marks = marksAfter (accessOf s) (st .marks);
+        fromPci = record { words = cond (clearsFifo pci (accessOf s)) [] (st .fromPci .words); address = cond (eqb (s .offset) 0x2C) (written addressKept (st .fromPci .address) (s .value) (s .enables)) (st .fromPci .address); count = cond (eqb (s .offset) 0x30) (written countKept (st .fromPci .count) (s .value) (s .enables)) (st .fromPci .count) };
+        fromAddon = record { words = cond (clearsFifo addon (accessOf s)) [] (st .fromAddon .words); address = cond (eqb (s .offset) 0x24) (written addressKept (st .fromAddon .address) (s .value) (s .enables)) (st .fromAddon .address); count = cond (eqb (s .offset) 0x28) (written countKept (st .fromAddon .count) (s .value) (s .enables)) (st .fromAddon .count) };
+        intcsr = cond (eqb (s .offset) 0x38) (intcsrWritten (st .intcsr) (s .value) (s .enables)) (st .intcsr);
+        mcsr = mcsrAfter (accessOf s) (st .mcsr);
+      } ≡ doneState st (accessOf s) word
+  unfolding doneState addressAfter countAfter intcsrAfter
+  pci-write-state k = rw k (simp (ne-eqb (s .offset) 0x20 elsewhere))
+
+  pub pci-read-reply : (start : ℕ) (memory : List ℕ) → s .kind ≡ 0 → showing (shown (register st (s .offset)) (s .enables)) ≡ doneReply (accessOf s .kind) st start memory (accessOf s)
+  unfolding doneReply readValue
+  pci-read-reply start memory k = rw k (simp (ne-eqb (s .offset) 0x20 elsewhere))
+
+  pub addon-read-reply : (start : ℕ) (memory : List ℕ) → s .kind ≡ 2 → showing (shown (register st (s .offset)) (s .enables)) ≡ doneReply (accessOf s .kind) st start memory (accessOf s)
+  unfolding doneReply readValue
+  addon-read-reply start memory k = rw k (simp (ne-eqb (s .offset) 0x20 elsewhere))
+
+-- accesses at it
+module _ (st : State) (s : Step) (port : s .offset ≡ 0x20) (word : ℕ) where
+  pub pci-port-read-state : s .kind ≡ 0
+      → record { mail = st .mail; marks = st .marks; fromPci = st .fromPci; fromAddon = record { words = drop 1 (st .fromAddon .words); address = st .fromAddon .address; count = st .fromAddon .count }; intcsr = st .intcsr; mcsr = st .mcsr } ≡ doneState st (accessOf s) word
+  unfolding doneState mailAfter marksAfter addressAfter countAfter intcsrAfter mcsrAfter
+  pci-port-read-state k = rw (k, port)
+
+  pub addon-port-read-state : s .kind ≡ 2
+      → record { mail = st .mail; marks = st .marks; fromPci = record { words = drop 1 (st .fromPci .words); address = st .fromPci .address; count = st .fromPci .count }; fromAddon = st .fromAddon; intcsr = st .intcsr; mcsr = st .mcsr } ≡ doneState st (accessOf s) word
+  unfolding doneState mailAfter marksAfter addressAfter countAfter intcsrAfter outgoingEvent raised mcsrAfter
+  addon-port-read-state k = rw (k, port) (simp (and-false (bit (st .intcsr) 4)))
+
+  pub pci-port-write-state : s .kind ≡ 1
+      → record { mail = st .mail; marks = st .marks; fromPci = record { words = st .fromPci .words ++ s .value ∷ []; address = st .fromPci .address; count = st .fromPci .count }; fromAddon = st .fromAddon; intcsr = st .intcsr; mcsr = st .mcsr } ≡ doneState st (accessOf s) word
+  unfolding doneState mailAfter marksAfter addressAfter countAfter intcsrAfter mcsrAfter
+  pci-port-write-state k = rw (k, port)
+
+  pub addon-port-write-state : s .kind ≡ 3
+      → record { mail = st .mail; marks = st .marks; fromPci = st .fromPci; fromAddon = record { words = st .fromAddon .words ++ s .value ∷ []; address = st .fromAddon .address; count = st .fromAddon .count }; intcsr = st .intcsr; mcsr = st .mcsr } ≡ doneState st (accessOf s) word
+  unfolding doneState mailAfter marksAfter addressAfter countAfter intcsrAfter incomingEvent raised mcsrAfter
+  addon-port-write-state k = rw (k, port) (simp (and-false (bit (st .intcsr) 12)))
+
+  pub pci-port-reply : (start : ℕ) (memory : List ℕ) → s .kind ≡ 0 → showing (front (held addon st)) ≡ doneReply (accessOf s .kind) st start memory (accessOf s)
+  unfolding doneReply readValue
+  pci-port-reply start memory k = rw (k, port)
+
+  pub addon-port-reply : (start : ℕ) (memory : List ℕ) → s .kind ≡ 2 → showing (front (held pci st)) ≡ doneReply (accessOf s .kind) st start memory (accessOf s)
+  unfolding doneReply readValue
+  addon-port-reply start memory k = rw (k, port)
+
+-- a write answers nothing
+pub write-reply : (s : Step) (st : State) (start : ℕ) (memory : List ℕ) (x : Access) (party : Party) → x .kind ≡ writing party → nothing ≡ doneReply (x .kind) st start memory x
+unfolding doneReply
+write-reply s st start memory x party k = rw k
+
+-- a FIFO that is cleared has no words
+pub cleared-words : (clear : Bool) (places : List ℕ) (head fill : ℕ) → from 8 0 places head (cond clear 0 fill) ≡ cond clear [] (from 8 0 places head fill)
+unfolding from
+cleared-words true places head fill = refl
+cleared-words false places head fill = refl
+
+pub below-13 : (code : ℕ) → code < 14 → (code ≡ 13 → ⊥) → code < 13
+below-13 code h other = omega arith

@@ -1,28 +1,25 @@
-// One step of the controller, by value, over lent host memory.
+// One step of the controller, by kind: on a bank of its numbers, with its words and the host memory lent, and by value above it.
+// Each kind looks at what it needs and changes what it can change; that the rest stays is proved, not computed.
 ghost use mathlib.Core.Path.{_≡_};
-ghost use mathlib.Core.Bool.{false, _&&_, _||_};
-ghost use Prim.Native.Nat.{_<_};
+ghost use mathlib.Core.List.{List};
+ghost use Prim.Native.Nat.{ℕ};
 ghost use lib.ListN.{length};
-ghost use Rattle.machine.specs.Sides.{pci, addon};
-ghost use Rattle.machine.specs.State.{held};
-ghost use Rattle.machine.specs.Access.{accessOf, kindOf, isReset, cycles, writes};
-ghost use Rattle.machine.specs.Offsets.{fifoPort};
-ghost use Rattle.machine.specs.Fifos.{isFull, fifoAfter};
-ghost use Rattle.machine.specs.Window.{placeOf};
-ghost use Rattle.machine.specs.Cycles.{laneAfter, cycleWord};
-ghost use Rattle.machine.specs.Code.{codeOf};
-ghost use Rattle.machine.specs.Step.{doneReply, abortedReply, answered, doneState, abortedState, memoryAfter, respond};
-ghost use Rattle.fifo.specs.Held as ring;
-ghost use Rattle.controller.specs.Controller.{laneOf, stateOf};
-ghost use Rattle.step.specs.Outcome.{outcomeOf};
+ghost use Rattle.machine.specs.Sides as sides;
+ghost use Rattle.machine.specs.State.{resetState};
+ghost use Rattle.machine.specs.Access.{accessOf};
+ghost use Rattle.machine.specs.Mailboxes.{mailAfter};
+ghost use Rattle.machine.specs.Step.{nothing, register, answered, doneState, abortedState};
+ghost use Rattle.bank.specs.Bank.{stateIn};
+ghost use Rattle.step.specs.Parts.{outcomeIn, toldStep, Accessed, Cycled};
+ghost use Rattle.step.specs.InBank.{InBank};
 ghost use Rattle.step.specs.Unique.{StepPromised};
+use bank::Bank;
+use controller::ByteCount;
 use controller::Controller;
-use controller::Lane;
-use fifo::Fifo;
+use fifo::WordFill;
 use machine::Answer;
 use machine::Step;
 use machine::codes;
-use machine::kinds;
 use machine::offsets;
 
 // The controller after a step, and the step's answer.
@@ -31,11 +28,22 @@ pub struct Stepped {
     pub answer: Answer,
 }
 
-// What is answered, with the line of the state that the step leaves, but for code 1.
-fn answered(c: Controller, code: u32, address: u32, value: u32, enables: u32) -> Stepped
-    ensures { λ r. ⌜ (r .controller ≡ c) × (r .answer ≡ answered (stateOf c) code (record { address = address; value = value; enables = enables })) ⌝ }
+// The same with the controller's numbers alone.
+pub struct Banked {
+    pub bank: Bank,
+    pub answer: Answer,
+}
+
+// The mailbox words, and the places of a FIFO.
+const RUN: usize = 8;
+
+// ---- answers
+
+// What is answered, with the line of the state that is left, but for code 1.
+fn answered(b: Bank, code: u32, address: u32, value: u32, enables: u32) -> Banked
+    ensures { λ r. ⌜ (r .bank ≡ b) × ((mail pci addon : List ℕ) → r .answer ≡ answered (stateIn b mail pci addon) code (record { address = address; value = value; enables = enables })) ⌝ }
 {
-    let i = intcsr::line(c.intcsr);
+    let i = intcsr::line(b.intcsr);
     let line = (code != codes::STATE_OUT_OF_FORM) & i;
     let answer = Answer {
         code,
@@ -44,213 +52,342 @@ fn answered(c: Controller, code: u32, address: u32, value: u32, enables: u32) ->
         enables,
         line,
     };
-    Stepped {
-        controller: c,
-        answer,
-    }
+    Banked { bank: b, answer }
 }
 
-// The FIFO from PCI after a done step, where there is room for what comes in.
-fn from_pci_fifo(f: Fifo, s: Step, word: u32) -> Fifo
-    requires { ⌜ ((cycles pci (kindOf (s .kind)) || writes pci fifoPort (accessOf s)) && isFull (ring.held f)) ≡ false ⌝ }
-    ensures { λ r. ⌜ ring.held r ≡ fifoAfter pci (accessOf s) word (ring.held f) ⌝ }
+// Code 13: INTCSR bit 20 is set, and the address answered.
+fn aborted(b: Bank, address: u32) -> Banked
+    ensures { λ r. ⌜ ((mail pci addon : List ℕ) → (stateIn (r .bank) mail pci addon ≡ abortedState (stateIn b mail pci addon)) × (r .answer ≡ answered (abortedState (stateIn b mail pci addon)) 13 (record { address = address; value = 0; enables = 0 }))) ⌝ }
 {
-    if commands::commands(commands::CLEAR_FROM_PCI, s) {
-        return fifo::empty();
-    }
-    if s.kind == kinds::READ_CYCLE {
-        return fifo::pushed(f, word);
-    }
-    let port = s.offset == offsets::FIFO_PORT;
-    if (s.kind == kinds::PCI_WRITE) & port {
-        return fifo::pushed(f, s.value);
-    }
-    if (s.kind == kinds::ADDON_READ) & port {
-        return fifo::popped(f);
-    }
-    f
+    let i = intcsr::aborted(b.intcsr);
+    let mut next = b;
+    next.intcsr = i;
+    answered(next, codes::NO_MEMORY_THERE, address, 0, 0)
 }
 
-// The FIFO from the Add-On after a done step, where there is room for what comes in.
-fn from_addon_fifo(f: Fifo, s: Step, word: u32) -> Fifo
-    requires { ⌜ (writes addon fifoPort (accessOf s) && isFull (ring.held f)) ≡ false ⌝ }
-    ensures { λ r. ⌜ ring.held r ≡ fifoAfter addon (accessOf s) word (ring.held f) ⌝ }
+// ---- the kinds
+
+// The register at an offset, but for the FIFO port.
+fn register(b: Bank, mail: &[u32], offset: u32) -> u32
+    ensures { λ r. ⌜ ((pci addon : List ℕ) → r ≡ register (stateIn b (now (mail .entry)) pci addon) offset) ⌝ }
 {
-    if commands::commands(commands::CLEAR_FROM_ADDON, s) {
-        return fifo::empty();
+    if mailboxes::is_mailbox(offset) {
+        return mailboxes::mail_word(mail, offset);
     }
-    if s.kind == kinds::WRITE_CYCLE {
-        return fifo::popped(f);
+    if offset == offsets::WRITE_ADDRESS {
+        return b.write_address;
     }
-    let port = s.offset == offsets::FIFO_PORT;
-    if (s.kind == kinds::ADDON_WRITE) & port {
-        return fifo::pushed(f, s.value);
+    if offset == offsets::WRITE_COUNT {
+        return count::shown(b.write_count);
     }
-    if (s.kind == kinds::PCI_READ) & port {
-        return fifo::popped(f);
+    if offset == offsets::READ_ADDRESS {
+        return b.read_address;
     }
-    f
+    if offset == offsets::READ_COUNT {
+        return count::shown(b.read_count);
+    }
+    if offset == offsets::STATUS {
+        return b.marks;
+    }
+    if offset == offsets::INTCSR {
+        return intcsr::read(b.intcsr);
+    }
+    mcsr::mcsr_read(b)
 }
 
-// The lane from PCI after a done step.
-fn from_pci_lane(l: Lane, s: Step, word: u32) -> Lane
-    requires { ⌜ ((cycles pci (kindOf (s .kind)) || writes pci fifoPort (accessOf s)) && isFull (ring.held (l .fifo))) ≡ false ⌝ }
-    ensures { λ r. ⌜ laneOf r ≡ laneAfter pci (accessOf s) word (laneOf l) ⌝ }
+// A PCI read: at the port the front word of the FIFO from the Add-On leaves; elsewhere no more than a mark changes.
+fn pci_read(b: Bank, mail: &[u32], addon: &[u32], s: Step) -> Banked
+    requires { ⌜ s .kind ≡ 0 ⌝ }
+    ensures { λ r. ⌜ ((pci : List ℕ) → Accessed s (stateIn b (now (mail .entry)) pci (now (addon .entry))) (outcomeIn r (now (mail .entry)) pci (now (addon .entry)))) ⌝ }
 {
-    let fifo = from_pci_fifo(l.fifo, s, word);
-    let address = address::read_address_after(s, l.address);
-    let count = count::read_count_after(s, l.count);
-    Lane {
-        fifo,
-        address,
-        count,
+    let code = refusal::access_code(b, s);
+    if code != codes::DONE {
+        return answered(b, code, 0, 0, 0);
     }
+    let mut next = b;
+    if s.offset == offsets::FIFO_PORT {
+        let x = fifo::front(addon, b.addon_head);
+        let h = fifo::past(b.addon_head);
+        let n = fifo::one_less(b.addon_fill);
+        next.addon_head = h;
+        next.addon_fill = n;
+        return answered(next, codes::DONE, 0, x, 0);
+    }
+    let x = word::shown(register(b, mail, s.offset), s.enables);
+    let m = mailboxes::marks_after(s, b.marks);
+    next.marks = m;
+    answered(next, codes::DONE, 0, x, 0)
 }
 
-// The lane from the Add-On after a done step.
-fn from_addon_lane(l: Lane, s: Step, word: u32) -> Lane
-    requires { ⌜ (writes addon fifoPort (accessOf s) && isFull (ring.held (l .fifo))) ≡ false ⌝ }
-    ensures { λ r. ⌜ laneOf r ≡ laneAfter addon (accessOf s) word (laneOf l) ⌝ }
+// An Add-On read: the same with the FIFO from PCI, and an event.
+fn addon_read(b: Bank, mail: &[u32], pci: &[u32], s: Step) -> Banked
+    requires { ⌜ s .kind ≡ 2 ⌝ }
+    ensures { λ r. ⌜ ((addon : List ℕ) → Accessed s (stateIn b (now (mail .entry)) (now (pci .entry)) addon) (outcomeIn r (now (mail .entry)) (now (pci .entry)) addon)) ⌝ }
 {
-    let fifo = from_addon_fifo(l.fifo, s, word);
-    let address = address::write_address_after(s, l.address);
-    let count = count::write_count_after(s, l.count);
-    Lane {
-        fifo,
-        address,
-        count,
+    let code = refusal::access_code(b, s);
+    if code != codes::DONE {
+        return answered(b, code, 0, 0, 0);
     }
+    let mut next = b;
+    if s.offset == offsets::FIFO_PORT {
+        let x = fifo::front(pci, b.pci_head);
+        let h = fifo::past(b.pci_head);
+        let n = fifo::one_less(b.pci_fill);
+        next.pci_head = h;
+        next.pci_fill = n;
+        return answered(next, codes::DONE, 0, x, 0);
+    }
+    let x = word::shown(register(b, mail, s.offset), s.enables);
+    let m = mailboxes::marks_after(s, b.marks);
+    let i = intcsr::after_addon_read(b.intcsr, s);
+    next.marks = m;
+    next.intcsr = i;
+    answered(next, codes::DONE, 0, x, 0)
 }
 
-// What a done step that is no reset leaves: each register by its own rule.
-fn done_state(c: Controller, s: Step, word: u32) -> Controller
-    requires { ⌜ ((cycles pci (kindOf (s .kind)) || writes pci fifoPort (accessOf s)) && isFull (held pci (stateOf c))) ≡ false ⌝ }
-    requires { ⌜ (writes addon fifoPort (accessOf s) && isFull (held addon (stateOf c))) ≡ false ⌝ }
-    ensures { λ r. ⌜ stateOf r ≡ doneState (stateOf c) (accessOf s) word ⌝ }
+// The numbers after a PCI write to a register that is not the FIFO port.
+fn operation_write(b: Bank, s: Step) -> Bank
+    requires { ⌜ s .kind ≡ 1 ⌝ }
+    requires { ⌜ (s .offset ≡ 0x20 → ⊥) ⌝ }
+    ensures { λ r. ⌜ ((mail pci addon : List ℕ) (word : ℕ) → stateIn r (mailAfter (accessOf s) mail) pci addon ≡ doneState (stateIn b mail pci addon) (accessOf s) word) ⌝ }
 {
-    let held = c.mail;
-    let mail = mailboxes::mail_after(s, held);
-    let marks = mailboxes::marks_after(s, c.marks);
-    let from_pci = from_pci_lane(c.from_pci, s, word);
-    let from_addon = from_addon_lane(c.from_addon, s, word);
-    let intcsr = intcsr::intcsr_after(c, s);
-    let mcsr = mcsr::mcsr_after(s, c.mcsr);
-    Controller {
-        mail,
+    let marks = mailboxes::marks_after(s, b.marks);
+    let read_address = address::written(offsets::READ_ADDRESS, s, b.read_address);
+    let read_count = count::written(offsets::READ_COUNT, s, b.read_count);
+    let write_address = address::written(offsets::WRITE_ADDRESS, s, b.write_address);
+    let write_count = count::written(offsets::WRITE_COUNT, s, b.write_count);
+    let intcsr = intcsr::after_pci_write(b.intcsr, s);
+    let mcsr = mcsr::mcsr_after(s, b.mcsr);
+    let pci_fill = fifo::left(commands::commands(commands::CLEAR_FROM_PCI, s), b.pci_fill);
+    let addon_fill = fifo::left(
+        commands::commands(commands::CLEAR_FROM_ADDON, s),
+        b.addon_fill,
+    );
+    let pci_head = b.pci_head;
+    let addon_head = b.addon_head;
+    Bank {
         marks,
-        from_pci,
-        from_addon,
         intcsr,
         mcsr,
+        read_address,
+        read_count,
+        pci_head,
+        pci_fill,
+        write_address,
+        write_count,
+        addon_head,
+        addon_fill,
     }
 }
 
-// The address that a cycle answers.
-fn cycle_address(c: Controller, kind: u32) -> u32
-    ensures { λ r. ⌜ r ≡ abortedReply (kindOf kind) (stateOf c) .address ⌝ }
+// A PCI write: a word into the FIFO from PCI, or a register.
+fn pci_write(b: Bank, mail: &mut [u32], pci: &mut [u32], s: Step) -> Banked
+    requires { ⌜ s .kind ≡ 1 ⌝ }
+    requires { ⌜ length (now pci) ≡ 8 ⌝ }
+    ensures { λ r. ⌜ ((addon : List ℕ) → Accessed s (stateIn b (now (mail .entry)) (now (pci .entry)) addon) (outcomeIn r (now (mail .exit)) (now (pci .exit)) addon)) ⌝ }
 {
-    if kind == kinds::WRITE_CYCLE {
-        return c.from_addon.address;
+    let code = refusal::access_code(b, s);
+    if code != codes::DONE {
+        return answered(b, code, 0, 0, 0);
     }
-    if kind == kinds::READ_CYCLE {
-        return c.from_pci.address;
+    if s.offset == offsets::FIFO_PORT {
+        fifo::push(pci, b.pci_head, b.pci_fill, s.value);
+        let n = fifo::one_more(b.pci_fill);
+        let mut next = b;
+        next.pci_fill = n;
+        return answered(next, codes::DONE, 0, 0, 0);
     }
-    0
+    mailboxes::store(mail, s);
+    answered(operation_write(b, s), codes::DONE, 0, 0, 0)
 }
 
-// What code 13 leaves: INTCSR bit 20 is set.
-fn aborted(c: Controller) -> Controller
-    ensures { λ r. ⌜ stateOf r ≡ abortedState (stateOf c) ⌝ }
+// An Add-On write: a word into the FIFO from the Add-On, or a mailbox, and an event.
+fn addon_write(b: Bank, mail: &mut [u32], addon: &mut [u32], s: Step) -> Banked
+    requires { ⌜ s .kind ≡ 3 ⌝ }
+    requires { ⌜ length (now addon) ≡ 8 ⌝ }
+    ensures { λ r. ⌜ ((pci : List ℕ) → Accessed s (stateIn b (now (mail .entry)) pci (now (addon .entry))) (outcomeIn r (now (mail .exit)) pci (now (addon .exit)))) ⌝ }
 {
-    let i = intcsr::aborted(c.intcsr);
-    let mut next = c;
+    let code = refusal::access_code(b, s);
+    if code != codes::DONE {
+        return answered(b, code, 0, 0, 0);
+    }
+    let mut next = b;
+    if s.offset == offsets::FIFO_PORT {
+        fifo::push(addon, b.addon_head, b.addon_fill, s.value);
+        let n = fifo::one_more(b.addon_fill);
+        next.addon_fill = n;
+        return answered(next, codes::DONE, 0, 0, 0);
+    }
+    mailboxes::store(mail, s);
+    let m = mailboxes::marks_after(s, b.marks);
+    let i = intcsr::after_addon_write(b.intcsr, s);
+    next.marks = m;
     next.intcsr = i;
-    next
+    answered(next, codes::DONE, 0, 0, 0)
 }
 
-// The word that a read cycle lets in.
-fn read_word(c: Controller, memory: &[u32], start: u32) -> u32
-    requires { ⌜ placeOf start (stateOf c .fromPci .address) < length (now memory) ⌝ }
-    ensures { λ r. ⌜ r ≡ cycleWord pci (stateOf c) start (now (memory .entry)) ⌝ }
+// A write cycle: the front word of the FIFO from the Add-On goes to the memory.
+fn write_cycle(b: Bank, addon: &[u32], memory: &mut [u32], start: u32) -> Banked
+    ensures { λ r. ⌜ ((mail pci : List ℕ) → Cycled sides.addon (stateIn b mail pci (now (addon .entry))) start (now (memory .entry)) (outcomeIn r mail pci (now (addon .entry)) (now (memory .exit)))) ⌝ }
 {
-    let at = address::place(start, c.from_pci.address) as usize;
-    word::shown(memory[at], count::low_enables(c.from_pci.count))
+    let code = refusal::write_cycle_code(b, start, memory.len());
+    let address = b.write_address;
+    if code == codes::NO_MEMORY_THERE {
+        return aborted(b, address);
+    }
+    if code != codes::DONE {
+        return answered(b, code, 0, 0, 0);
+    }
+    let at = address::place(start, address) as usize;
+    let x = fifo::front(addon, b.addon_head);
+    let e = count::low_enables(b.write_count);
+    memory[at] = word::merged(memory[at], x, e);
+    let h = fifo::past(b.addon_head);
+    let n = fifo::one_less(b.addon_fill);
+    let i = intcsr::after_write_cycle(b.intcsr, b.write_count);
+    let less = count::count_left(b.write_count);
+    let on = address::next_address(address);
+    let mut next = b;
+    next.addon_head = h;
+    next.addon_fill = n;
+    next.write_address = on;
+    next.write_count = less;
+    next.intcsr = i;
+    answered(next, codes::DONE, address, x, e)
 }
 
-// What a done step that is no reset answers.
-struct Reply {
-    address: u32,
-    value: u32,
-    enables: u32,
-}
-
-fn done_reply(c: Controller, memory: &[u32], start: u32, s: Step) -> Reply
-    requires { ⌜ codeOf (stateOf c) start (length (now memory)) (accessOf s) ≡ 0 ⌝ }
-    requires { ⌜ isReset (kindOf (s .kind)) ≡ false ⌝ }
-    ensures { λ r. ⌜ record { address = r .address; value = r .value; enables = r .enables } ≡ doneReply (kindOf (s .kind)) (stateOf c) start (now (memory .entry)) (accessOf s) ⌝ }
+// A read cycle: a word of the memory goes into the FIFO from PCI.
+fn read_cycle(b: Bank, pci: &mut [u32], memory: &[u32], start: u32) -> Banked
+    requires { ⌜ length (now pci) ≡ 8 ⌝ }
+    ensures { λ r. ⌜ ((mail addon : List ℕ) → Cycled sides.pci (stateIn b mail (now (pci .entry)) addon) start (now (memory .entry)) (outcomeIn r mail (now (pci .exit)) addon (now (memory .entry)))) ⌝ }
 {
-    if s.kind == kinds::WRITE_CYCLE {
-        return Reply {
-            address: c.from_addon.address,
-            value: fifo::front(c.from_addon.fifo),
-            enables: count::low_enables(c.from_addon.count),
-        };
+    let code = refusal::read_cycle_code(b, start, memory.len());
+    let address = b.read_address;
+    if code == codes::NO_MEMORY_THERE {
+        return aborted(b, address);
     }
-    if s.kind == kinds::READ_CYCLE {
-        return Reply {
-            address: c.from_pci.address,
-            value: read_word(c, memory, start),
-            enables: count::low_enables(c.from_pci.count),
-        };
+    if code != codes::DONE {
+        return answered(b, code, 0, 0, 0);
     }
-    Reply {
-        address: 0,
-        value: reads::value(c, s),
-        enables: 0,
+    let at = address::place(start, address) as usize;
+    let e = count::low_enables(b.read_count);
+    let x = word::shown(memory[at], e);
+    fifo::push(pci, b.pci_head, b.pci_fill, x);
+    let n = fifo::one_more(b.pci_fill);
+    let i = intcsr::after_read_cycle(b.intcsr, b.read_count);
+    let less = count::count_left(b.read_count);
+    let on = address::next_address(address);
+    let mut next = b;
+    next.pci_fill = n;
+    next.read_address = on;
+    next.read_count = less;
+    next.intcsr = i;
+    answered(next, codes::DONE, address, x, e)
+}
+
+// A chip reset.
+fn reset(mail: &mut [u32]) -> Banked
+    requires { ⌜ length (now mail) ≡ 8 ⌝ }
+    ensures { λ r. ⌜ ((pci addon : List ℕ) → (stateIn (r .bank) (now (mail .exit)) pci addon ≡ resetState) × (r .answer ≡ answered resetState 0 nothing)) ⌝ }
+{
+    mail[0] = 0;
+    mail[1] = 0;
+    mail[2] = 0;
+    mail[3] = 0;
+    mail[4] = 0;
+    mail[5] = 0;
+    mail[6] = 0;
+    mail[7] = 0;
+    let b = Bank {
+        marks: 0,
+        intcsr: 0,
+        mcsr: 0,
+        read_address: 0,
+        read_count: ByteCount(0),
+        pci_head: 0,
+        pci_fill: WordFill(0),
+        write_address: 0,
+        write_count: ByteCount(0),
+        addon_head: 0,
+        addon_fill: WordFill(0),
+    };
+    answered(b, codes::DONE, 0, 0, 0)
+}
+
+// ---- the step
+
+// A step on words of the lengths that they must have, by the code of form that it is told.
+fn by_kind(
+    b: Bank,
+    mail: &mut [u32],
+    pci: &mut [u32],
+    addon: &mut [u32],
+    memory: &mut [u32],
+    start: u32,
+    form: u32,
+    s: Step,
+) -> Banked
+    requires { ⌜ (length (now mail) ≡ 8) × ((length (now pci) ≡ 8) × (length (now addon) ≡ 8)) ⌝ }
+    ensures { λ r. ⌜ outcomeIn r (now (mail .exit)) (now (pci .exit)) (now (addon .exit)) (now (memory .exit)) ≡ toldStep form (stateIn b (now (mail .entry)) (now (pci .entry)) (now (addon .entry))) start (now (memory .entry)) s ⌝ }
+{
+    if form != codes::DONE {
+        return answered(b, form, 0, 0, 0);
+    }
+    let kind = s.kind;
+    match kind {
+        0 => pci_read(b, mail, addon, s),
+        1 => pci_write(b, mail, pci, s),
+        2 => addon_read(b, mail, pci, s),
+        3 => addon_write(b, mail, addon, s),
+        4 => write_cycle(b, addon, memory, start),
+        5 => read_cycle(b, pci, memory, start),
+        6 => reset(mail),
+        _ => answered(b, codes::UNKNOWN_STEP, 0, 0, 0),
     }
 }
 
-// A done write cycle stores the front word's lowest bytes in the memory word.
-fn store(c: Controller, memory: &mut [u32], start: u32, s: Step)
-    requires { ⌜ codeOf (stateOf c) start (length (now memory)) (accessOf s) ≡ 0 ⌝ }
-    ensures { λ r. ⌜ now (memory .exit) ≡ memoryAfter (stateOf c) start (now (memory .entry)) (accessOf s) 0 ⌝ }
+// One step: by `form`, a caller asks `refusal::form` once for many steps. Words of another length than eight are a state out of form.
+pub fn in_bank(
+    b: Bank,
+    mail: &mut [u32],
+    pci: &mut [u32],
+    addon: &mut [u32],
+    memory: &mut [u32],
+    start: u32,
+    form: u32,
+    s: Step,
+) -> Banked
+    ensures { λ r. ⌜ InBank b (now (mail .entry)) (now (pci .entry)) (now (addon .entry)) (now (memory .entry)) start form s r (now (mail .exit)) (now (pci .exit)) (now (addon .exit)) (now (memory .exit)) ⌝ }
 {
-    if s.kind == kinds::WRITE_CYCLE {
-        let at = address::place(start, c.from_addon.address) as usize;
-        let word = fifo::front(c.from_addon.fifo);
-        memory[at] = word::merged(memory[at], word, count::low_enables(c.from_addon.count));
+    if mail.len() != RUN {
+        return answered(b, codes::STATE_OUT_OF_FORM, 0, 0, 0);
     }
-}
-
-// A step that no test refuses.
-fn done(c: Controller, memory: &mut [u32], start: u32, s: Step) -> Stepped
-    requires { ⌜ codeOf (stateOf c) start (length (now memory)) (accessOf s) ≡ 0 ⌝ }
-    ensures { λ r. ⌜ outcomeOf r (now (memory .exit)) ≡ respond (stateOf c) start (now (memory .entry)) (accessOf s) 0 ⌝ }
-{
-    if s.kind == kinds::CHIP_RESET {
-        return answered(controller::reset(), codes::DONE, 0, 0, 0);
+    if pci.len() != RUN {
+        return answered(b, codes::STATE_OUT_OF_FORM, 0, 0, 0);
     }
-    let r = done_reply(c, memory, start, s);
-    store(c, memory, start, s);
-    answered(
-        done_state(c, s, r.value),
-        codes::DONE,
-        r.address,
-        r.value,
-        r.enables,
-    )
+    if addon.len() != RUN {
+        return answered(b, codes::STATE_OUT_OF_FORM, 0, 0, 0);
+    }
+    by_kind(b, mail, pci, addon, memory, start, form, s)
 }
 
 // One step: every controller, memory, start and numbers have an answer, and a refusal leaves the controller as it was.
 pub fn step(c: Controller, memory: &mut [u32], start: u32, s: Step) -> Stepped
     ensures { λ r. ⌜ StepPromised c start (now (memory .entry)) s r (now (memory .exit)) ⌝ }
 {
-    let code = code::code(c, start, memory.len(), s);
-    if code == codes::DONE {
-        return done(c, memory, start, s);
+    let mut mail = bank::mail_of(c);
+    let mut pci = bank::pci_of(c);
+    let mut addon = bank::addon_of(c);
+    let b = bank::bank_of(c);
+    let form = refusal::form(b, start, memory.len());
+    let r = in_bank(b, &mut mail, &mut pci, &mut addon, memory, start, form, s);
+    let answer = r.answer;
+    if (answer.code != codes::DONE) & (answer.code != codes::NO_MEMORY_THERE) {
+        return Stepped {
+            controller: c,
+            answer,
+        };
     }
-    if code == codes::NO_MEMORY_THERE {
-        return answered(aborted(c), code, cycle_address(c, s.kind), 0, 0);
-    }
-    answered(c, code, 0, 0, 0)
+    let controller = bank::controller_of(r.bank, mail, pci, addon);
+    Stepped { controller, answer }
 }

@@ -1,5 +1,5 @@
 use denote.Ref.{now}
-use mathlib.Core.Path.{sym, ap, _∙_}
+use mathlib.Core.Path.{refl, sym, ap, _∙_}
 use Rattle.controller.specs.Controller.{stateOf}
 use Rattle.frame.specs.declared.Framed.{Framed}
 use Rattle.frame.specs.Frame.{framedOutcome}
@@ -15,10 +15,10 @@ returns c =
     c .before .before .step .ensures .outcome ∙ ap (λ (f : Framed). framedOutcome f (stateOf (a .c)) (a .start) (now (a .memory))) (sym (f .f .given .1))
 
 returns-2 : tie.Need-returns-2
-unfolding framedOutcome
+unfolding framedOutcome stateOf
 returns-2 c =
     let a = c .before .before .before .before .args in
-    rw (c .not-a-frame .ensures) (ap (λ (f : Framed). framedOutcome f (stateOf (a .c)) (a .start) (now (a .memory))) (sym (c .before .enum-told .given .1)))
+    rw (c .not-a-frame .ensures (stateOf (a .c)) refl) (ap (λ (f : Framed). framedOutcome f (stateOf (a .c)) (a .start) (now (a .memory))) (sym (c .before .enum-told .given .1)))
 
 pub answer-spec : {M : Type 1} → statement M
 answer-spec =

@@ -1,3 +1,4 @@
+use denote.Ref.{now}
 use Prim.Native.Nat.{_/_}
 use mathlib.Core.Path.{sym}
 use native.Mathlib.Omega.{arith}
@@ -7,7 +8,7 @@ use Rattle.mailboxes.proofs.mail_word.Statement.{statement}
 use Rattle.mailboxes.proofs.mail_word.Tie as tie
 
 returns-2 : tie.Need-returns-2
-returns-2 c = sym (List·getD-eq-default (c .before .args .t1) 0 {n = c .before .args .offset / 4} (omega arith))
+returns-2 c = let a = c .before .args in sym (List·getD-eq-default (now (a .mail)) 0 {n = a .offset / 4} (omega (arith, c .if1 .left)))
 
 pub mail-word-spec : {M : Type 1} → statement M
 mail-word-spec = tie.close (tie.spec (λ c. search needs) (λ c. search needs) (λ c. search needs) (λ c. search needs) returns-2)

@@ -6,7 +6,8 @@ use Rattle.mcsr.proofs.from_pci_status.Tie as tie
 
 returns : tie.Need-returns
 unfolding fifoStatus flag
-returns c = simp (c .flag3 .ensures, c .before .is-full .ensures, c .before .before .flag2 .ensures, c .before .before .before .has-room .ensures, c .before .before .before .before .flag .ensures, c .before .before .before .before .before .is-empty .ensures)
+returns c = λ words few.
+    simp (few, c .flag3 .ensures, c .before .is-full .ensures, c .before .before .flag2 .ensures, c .before .before .before .has-room .ensures, c .before .before .before .before .flag .ensures, c .before .before .before .before .before .is-empty .ensures)
 
 pub from-pci-status-spec : {M : Type 1} → statement M
 from-pci-status-spec = tie.close (tie.spec (λ c κs. search needs) (λ c κs. search needs) (λ c κs. search needs) (λ c κs. search needs) (λ c κs. search needs) (λ c κs. search needs) returns)

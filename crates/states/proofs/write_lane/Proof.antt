@@ -4,11 +4,11 @@ use Rattle.states.proofs.write_lane.Statement.{statement}
 use Rattle.states.proofs.write_lane.Tie as tie
 
 abbrev Inv-loop : tie.InvT-loop
-Inv-loop l f₀ i₀ f i = i ≤ 8
+Inv-loop l fill words head₀ i₀ head i = i ≤ 8
 
 abbrev μ-loop : tie.MeasureT-loop
-μ-loop l f₀ i₀ f i = 8 - i
+μ-loop l fill words head₀ i₀ head i = 8 - i
 
 pub write-lane-spec : {M : Type 1} → statement M
 write-lane-spec =
-    tie.close (tie.spec Inv-loop μ-loop (λ c κs. search needs) (λ c κs. search needs) (λ c. search needs) (λ c κs. search needs) (λ c κs. search needs) (λ c κs. search needs) (λ c. search needs) (λ c. search needs) (λ c. search needs) (λ c κs. search needs) (λ c κs. search needs) (λ c. search needs))
+    tie.close (tie.spec Inv-loop μ-loop (λ c κs. search needs) (λ c. search needs) (λ c. search needs) (λ c κs. search needs) (λ c κs. search needs) (λ c κs. search needs) (λ c. search needs) (λ c. search needs) (λ c. search needs) (λ c κs. search needs) (λ c κs. search needs) (λ c. search needs))

@@ -1,12 +1,12 @@
 use Rattle.machine.specs.Step.{abortedState}
-use Rattle.controller.specs.Controller.{stateOf}
+use Rattle.bank.specs.Bank.{stateIn}
 use borrow.Author.Needs.{needs}
 use Rattle.step.proofs.aborted.Statement.{statement}
 use Rattle.step.proofs.aborted.Tie as tie
 
 returns : tie.Need-returns
-unfolding stateOf abortedState
-returns c = simp (c .aborted .ensures)
+unfolding stateIn abortedState
+returns c = λ mail pci addon. (rw (c .answered .ensures .0, c .before .aborted .ensures), rw (c .answered .ensures .1 mail pci addon, c .before .aborted .ensures))
 
 pub aborted-spec : {M : Type 1} → statement M
-aborted-spec = tie.close (tie.spec (λ c κs. search needs) returns)
+aborted-spec = tie.close (tie.spec (λ c κs. search needs) (λ c κs. search needs) returns)

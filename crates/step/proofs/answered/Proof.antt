@@ -1,13 +1,13 @@
 use mathlib.Core.Path.{refl}
 use Rattle.machine.specs.Step.{answered}
-use Rattle.controller.specs.Controller.{stateOf}
+use Rattle.bank.specs.Bank.{stateIn}
 use borrow.Author.Needs.{needs}
 use Rattle.step.proofs.answered.Statement.{statement}
 use Rattle.step.proofs.answered.Tie as tie
 
 returns : tie.Need-returns
-unfolding stateOf answered
-returns c = (refl, simp (c .line .ensures))
+unfolding stateIn answered
+returns c = (refl, λ mail pci addon. simp (c .line .ensures))
 
 pub answered-spec : {M : Type 1} → statement M
 answered-spec = tie.close (tie.spec (λ c κs. search needs) returns)

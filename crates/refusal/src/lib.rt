@@ -1,0 +1,188 @@
+// The code of a step, in parts: of the form, of a read or a write, of a cycle. Nothing is changed here.
+ghost use mathlib.Core.Path.{_≡_};
+ghost use mathlib.Core.List.{List};
+ghost use Prim.Native.Nat.{ℕ, _<_};
+ghost use lib.ListN.{length};
+ghost use Rattle.machine.specs.Sides as sides;
+ghost use Rattle.machine.specs.Access.{accessOf};
+ghost use Rattle.machine.specs.Offsets.{inTable, isReadOnly};
+ghost use Rattle.machine.specs.Window.{inside, isWindowOutOfForm};
+ghost use Rattle.machine.specs.Code.{anyOf, laneFaults, isUnknownOffset, isReadOnlyWrite, isFullOrEmpty};
+ghost use Rattle.bank.specs.Bank.{stateIn};
+ghost use Rattle.refusal.specs.Codes.{accessCode, cycleCode, formCode};
+use bank::Bank;
+use controller::ByteCount;
+use fifo::WordFill;
+use machine::ALL_ENABLES;
+use machine::Step;
+use machine::WORD_BYTES;
+use machine::codes;
+use machine::kinds;
+use machine::offsets;
+
+// The most words that a window may have.
+const WINDOW_MAX: usize = 16384;
+
+// Code 1, of a lane.
+fn is_lane_out_of_form(fill: WordFill, address: u32, count: ByteCount) -> bool
+    ensures { λ r. ⌜ ((words : List ℕ) → length words ≡ fill .0 → r ≡ anyOf (laneFaults (record { words = words; address = address; count = count .0 }))) ⌝ }
+{
+    fifo::is_out_of_form(fill) | (address % WORD_BYTES != 0) | count::is_out_of_form(count)
+}
+
+// Code 2, window out of form.
+fn is_window_out_of_form(start: u32, words: usize) -> bool
+    ensures { λ r. ⌜ r ≡ isWindowOutOfForm start words ⌝ }
+{
+    (start % WORD_BYTES != 0) | (WINDOW_MAX < words)
+}
+
+// Codes 1 and 2, or done: no step changes which.
+pub fn form(b: Bank, start: u32, words: usize) -> u32
+    ensures { λ r. ⌜ ((mail pci addon : List ℕ) → r ≡ formCode (stateIn b mail pci addon) start words) ⌝ }
+{
+    let i = word::is_only(intcsr::KEPT | intcsr::EVENTS, b.intcsr);
+    let m = word::is_only(mcsr::KEPT, b.mcsr);
+    let p = is_lane_out_of_form(b.pci_fill, b.read_address, b.read_count);
+    let a = is_lane_out_of_form(b.addon_fill, b.write_address, b.write_count);
+    if p | a | !i | !m {
+        return codes::STATE_OUT_OF_FORM;
+    }
+    if is_window_out_of_form(start, words) {
+        return codes::WINDOW_OUT_OF_FORM;
+    }
+    codes::DONE
+}
+
+fn is_in_pci_table(offset: u32) -> bool
+    ensures { λ r. ⌜ r ≡ inTable sides.pci offset ⌝ }
+{
+    (offset < offsets::END) & (offset % WORD_BYTES == 0)
+}
+
+fn is_in_addon_table(offset: u32) -> bool
+    ensures { λ r. ⌜ r ≡ inTable sides.addon offset ⌝ }
+{
+    mailboxes::is_mailbox(offset) | (offset == offsets::FIFO_PORT) | (offset == offsets::STATUS)
+}
+
+// Code 4, unknown offset.
+fn is_unknown_offset(s: Step) -> bool
+    ensures { λ r. ⌜ r ≡ isUnknownOffset (accessOf s) ⌝ }
+{
+    let pci = (s.kind == kinds::PCI_READ) | (s.kind == kinds::PCI_WRITE);
+    let addon = (s.kind == kinds::ADDON_READ) | (s.kind == kinds::ADDON_WRITE);
+    pci & !is_in_pci_table(s.offset) | addon & !is_in_addon_table(s.offset)
+}
+
+fn is_read_only_to_pci(offset: u32) -> bool
+    ensures { λ r. ⌜ r ≡ isReadOnly sides.pci offset ⌝ }
+{
+    mailboxes::is_mailbox(offset) & !(offset < offsets::INCOMING) | (offset == offsets::STATUS)
+}
+
+fn is_read_only_to_addon(offset: u32) -> bool
+    ensures { λ r. ⌜ r ≡ isReadOnly sides.addon offset ⌝ }
+{
+    mailboxes::is_mailbox(offset) & (offset < offsets::INCOMING) | (offset == offsets::STATUS)
+}
+
+// Code 7, read-only register.
+fn is_read_only_write(s: Step) -> bool
+    ensures { λ r. ⌜ r ≡ isReadOnlyWrite (accessOf s) ⌝ }
+{
+    (s.kind == kinds::PCI_WRITE) & is_read_only_to_pci(s.offset)
+        | (s.kind == kinds::ADDON_WRITE) & is_read_only_to_addon(s.offset)
+}
+
+// Code 8, FIFO full or empty.
+fn is_full_or_empty(b: Bank, s: Step) -> bool
+    ensures { λ r. ⌜ ((mail pci addon : List ℕ) → r ≡ isFullOrEmpty (stateIn b mail pci addon) (accessOf s)) ⌝ }
+{
+    let port = s.offset == offsets::FIFO_PORT;
+    (s.kind == kinds::PCI_WRITE) & port & fifo::is_full(b.pci_fill)
+        | (s.kind == kinds::ADDON_READ) & port & fifo::is_empty(b.pci_fill)
+        | ((s.kind == kinds::ADDON_WRITE) & port & fifo::is_full(b.addon_fill)
+            | (s.kind == kinds::PCI_READ) & port & fifo::is_empty(b.addon_fill))
+}
+
+// Codes 4 to 8, or done, of a read or a write: 6 and 8 are of the FIFO port alone, 7 is of others. Of any other kind done.
+pub fn access_code(b: Bank, s: Step) -> u32
+    ensures { λ r. ⌜ (r < 13) × ((mail pci addon : List ℕ) → r ≡ accessCode (stateIn b mail pci addon) (accessOf s)) ⌝ }
+{
+    if kinds::ADDON_WRITE < s.kind {
+        return codes::DONE;
+    }
+    if is_unknown_offset(s) {
+        return codes::UNKNOWN_OFFSET;
+    }
+    if ALL_ENABLES < s.enables {
+        return codes::BAD_ENABLES;
+    }
+    if s.offset != offsets::FIFO_PORT {
+        if is_read_only_write(s) {
+            return codes::READ_ONLY_REGISTER;
+        }
+        return codes::DONE;
+    }
+    if s.enables != ALL_ENABLES {
+        return codes::PART_FIFO_ACCESS;
+    }
+    if is_full_or_empty(b, s) {
+        return codes::FIFO_FULL_OR_EMPTY;
+    }
+    codes::DONE
+}
+
+// Whether an address belongs to a memory of so many words.
+fn is_inside(start: u32, words: usize, address: u32) -> bool
+    ensures { λ r. ⌜ r ≡ inside start words address ⌝ }
+{
+    (address::place(start, address) as usize) < words
+}
+
+// Codes 9 to 13, or done, of a write cycle.
+pub fn write_cycle_code(b: Bank, start: u32, words: usize) -> u32
+    ensures { λ r. ⌜ (r < 14) × ((mail pci addon : List ℕ) → r ≡ cycleCode sides.addon (stateIn b mail pci addon) start words) ⌝ }
+{
+    if !word::bit(b.mcsr, mcsr::WRITE_ENABLE) {
+        return codes::TRANSFER_OFF;
+    }
+    if count::is_zero(b.write_count) {
+        return codes::COUNT_IS_ZERO;
+    }
+    if intcsr::is_abort_in(b.intcsr) {
+        return codes::ABORT_STANDS;
+    }
+    let four = word::bit(b.mcsr, mcsr::WRITE_FOUR);
+    if !fifo::has_words(b.addon_fill, four) {
+        return codes::FIFO_NOT_READY;
+    }
+    if !is_inside(start, words, b.write_address) {
+        return codes::NO_MEMORY_THERE;
+    }
+    codes::DONE
+}
+
+// Codes 9 to 13, or done, of a read cycle.
+pub fn read_cycle_code(b: Bank, start: u32, words: usize) -> u32
+    ensures { λ r. ⌜ (r < 14) × ((mail pci addon : List ℕ) → r ≡ cycleCode sides.pci (stateIn b mail pci addon) start words) ⌝ }
+{
+    if !word::bit(b.mcsr, mcsr::READ_ENABLE) {
+        return codes::TRANSFER_OFF;
+    }
+    if count::is_zero(b.read_count) {
+        return codes::COUNT_IS_ZERO;
+    }
+    if intcsr::is_abort_in(b.intcsr) {
+        return codes::ABORT_STANDS;
+    }
+    let four = word::bit(b.mcsr, mcsr::READ_FOUR);
+    if !fifo::has_room(b.pci_fill, four) {
+        return codes::FIFO_NOT_READY;
+    }
+    if !is_inside(start, words, b.read_address) {
+        return codes::NO_MEMORY_THERE;
+    }
+    codes::DONE
+}

@@ -1,0 +1,118 @@
+-- What the proofs of banked cycles and of the reset need of the machine's rules.
+use Prim.Native.Nat.{ℕ, _≤_, _<_}
+use mathlib.Core.Path.{_≡_, refl}
+use mathlib.Core.Bool.{Bool, true, false, cond, not, _&&_}
+use mathlib.Core.List.{List, [], _∷_, _++_}
+use native.Mathlib.Omega.{arith}
+use lib.ListN.{length, drop, set, replicate}
+use borrow.Author.Tests.{ltb-true, leb-true, not-false}
+use Rattle.machine.specs.Words.{bit, raised}
+use Rattle.machine.specs.Sides.{Side, pci, addon, sameSide}
+use Rattle.machine.specs.State.{State, lane, held}
+use Rattle.machine.specs.Access.{Access, cycle, cycles}
+use Rattle.machine.specs.Window.{placeOf, inside}
+use Rattle.machine.specs.Fifos.{amount}
+use Rattle.machine.specs.Mailboxes.{marksAfter, mailAfter}
+use Rattle.machine.specs.Mcsr.{mcsrAfter}
+use Rattle.machine.specs.Intcsr.{intcsrAfter}
+use Rattle.machine.specs.Cycles.{needed, isReady, stored, nextAddress, countLeft, runsOut, addressAfter, countAfter}
+use Rattle.machine.specs.Code.{cycleTests, isNotReady, isNoMemory}
+use Rattle.machine.specs.Step.{Reply, doneReply, abortedReply, replyOf, answered, doneState, abortedState, stateAfter, memoryAfter, respond}
+use Rattle.machine.specs.declared.Answer.{Answer}
+use Rattle.laws.proofs.Tests.{none-applies, neither, and-at}
+use Rattle.laws.proofs.Done.{room-to-read}
+use Rattle.fifo.proofs.Ring.{length-from}
+use Rattle.refusal.specs.Codes.{cycleCode, cycleBy}
+use Rattle.bank.specs.declared.Bank.{Bank}
+use Rattle.bank.specs.Bank.{stateIn}
+
+same : (side : Side) → sameSide side side ≡ true
+same pci = refl
+same addon = refl
+
+at-least-one : (four : Bool) → 1 ≤ cond four 4 1
+at-least-one true = omega arith
+at-least-one false = omega arith
+
+-- ---- a cycle that no test refuses
+
+-- code 13: its address is inside
+pub cycle-inside : (side : Side) (st : State) (start words : ℕ) → cycleCode side st start words ≡ 0 → placeOf start (lane side st .address) < words
+unfolding isNoMemory
+cycle-inside side st start words e =
+    let none = none-applies (cycleTests st start words (cycleBy side 0 0 0)) refl e 13 in
+    ltb-true _ words
+    (not-false _ (and-at (cycles side (cycle side)) _ (same side) (neither (λ of. cycles of (cycle side) && not (inside start words (lane of st .address))) none side)))
+
+ready : (side : Side) (st : State) (start words : ℕ) → cycleCode side st start words ≡ 0 → isNotReady st (cycleBy side 0 0 0) ≡ false
+ready side st start words e = none-applies (cycleTests st start words (cycleBy side 0 0 0)) refl e 12
+
+word-to-write : (st : State) → isNotReady st (cycleBy addon 0 0 0) ≡ false → 0 < length (held addon st)
+unfolding isNotReady isReady
+word-to-write st e =
+    let some = leb-true (needed addon (st .mcsr)) (amount addon (held addon st)) (not-false _ e) in
+    omega (arith, at-least-one (bit (st .mcsr) 9))
+
+module _ (b : Bank) (start words : ℕ) where
+  pub write-cycle-word : cycleCode addon (stateIn b [] [] []) start words ≡ 0 → 0 < b .«addon_fill» .0
+  unfolding stateIn
+  write-cycle-word e = simp length-from at (word-to-write (stateIn b [] [] []) (ready addon (stateIn b [] [] []) start words e))
+
+  pub read-cycle-room : cycleCode pci (stateIn b [] [] []) start words ≡ 0 → b .«pci_fill» .0 < 8
+  unfolding stateIn
+  read-cycle-room e = simp length-from at (room-to-read pci (stateIn b [] [] []) (cycleBy pci 0 0 0) (ready pci (stateIn b [] [] []) start words e) refl)
+
+-- ---- what it leaves
+
+module _ (st : State) (offset enables value word : ℕ) where
+  pub write-cycle-state :
+      record {
+        mail = st .mail;
+        marks = st .marks;
+        fromPci = st .fromPci;
+        fromAddon = record { words = drop 1 (st .fromAddon .words); address = nextAddress (st .fromAddon .address); count = countLeft (st .fromAddon .count) };
+        intcsr = raised (st .intcsr) (runsOut (st .fromAddon .count)) 18;
+        mcsr = st .mcsr;
+      } ≡ doneState st (cycleBy addon offset enables value) word
+  unfolding doneState mailAfter marksAfter addressAfter countAfter intcsrAfter mcsrAfter
+  write-cycle-state = refl
+
+  pub read-cycle-state :
+      record {
+        mail = st .mail;
+        marks = st .marks;
+        fromPci = record { words = st .fromPci .words ++ word ∷ []; address = nextAddress (st .fromPci .address); count = countLeft (st .fromPci .count) };
+        fromAddon = st .fromAddon;
+        intcsr = raised (st .intcsr) (runsOut (st .fromPci .count)) 19;
+        mcsr = st .mcsr;
+      } ≡ doneState st (cycleBy pci offset enables value) word
+  unfolding doneState mailAfter marksAfter addressAfter countAfter intcsrAfter mcsrAfter
+  read-cycle-state = refl
+
+-- ---- what it brings about
+
+module _ (st : State) (start : ℕ) (memory : List ℕ) (x : Access) (code : ℕ) where
+  pub done-write-cycle : (after : State) (reply : Reply) (answer : Answer) (memory′ : List ℕ)
+      → code ≡ 0 → x .kind ≡ cycle addon → reply ≡ doneReply (x .kind) st start memory x → after ≡ doneState st x (reply .value) → memory′ ≡ stored st start memory
+      → answer ≡ answered after 0 reply → record { state = after; memory = memory′; answer = answer } ≡ respond st start memory x code
+  unfolding respond replyOf stateAfter memoryAfter
+  done-write-cycle after reply answer memory′ zero k r a m w = rw zero (simp (← r, ← a, m, w) (rw k))
+
+  pub abort-step : (address : ℕ) → code ≡ 13 → record { address = address; value = 0; enables = 0 } ≡ abortedReply (x .kind) st
+      → record { state = abortedState st; memory = memory; answer = answered (abortedState st) 13 (record { address = address; value = 0; enables = 0 }) } ≡ respond st start memory x code
+  unfolding respond replyOf stateAfter memoryAfter
+  abort-step address e r = rw (e, r)
+
+-- ---- a reset
+
+pub eight-zeros : (l : List ℕ) → length l ≡ 8 → set (set (set (set (set (set (set (set l 0 0) 1 0) 2 0) 3 0) 4 0) 5 0) 6 0) 7 0 ≡ replicate 8 0
+eight-zeros [] e = absurd (omega arith)
+eight-zeros (a ∷ []) e = absurd (omega arith)
+eight-zeros (a ∷ b ∷ []) e = absurd (omega arith)
+eight-zeros (a ∷ b ∷ c ∷ []) e = absurd (omega arith)
+eight-zeros (a ∷ b ∷ c ∷ d ∷ []) e = absurd (omega arith)
+eight-zeros (a ∷ b ∷ c ∷ d ∷ f ∷ []) e = absurd (omega arith)
+eight-zeros (a ∷ b ∷ c ∷ d ∷ f ∷ g ∷ []) e = absurd (omega arith)
+eight-zeros (a ∷ b ∷ c ∷ d ∷ f ∷ g ∷ h ∷ []) e = absurd (omega arith)
+eight-zeros (a ∷ b ∷ c ∷ d ∷ f ∷ g ∷ h ∷ i ∷ []) e = refl
+eight-zeros (a ∷ b ∷ c ∷ d ∷ f ∷ g ∷ h ∷ i ∷ j ∷ l) e = absurd (omega arith)
