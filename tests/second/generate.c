@@ -238,7 +238,8 @@ static void clear_flags(struct generator *g)
     frame(g, PCI_READ, 0x38, 15, 0);
 }
 
-/* Chooses a byte for one event, then touches it, or one beside it. */
+/* Chooses a byte for one event, mostly makes it ready to change over, then
+ * touches it, or one beside it. */
 static void mail_event(struct generator *g)
 {
     uint32_t turn = (uint32_t)(g->turn++);
@@ -252,8 +253,12 @@ static void mail_event(struct generator *g)
     uint32_t other = random32(g) & 0x1F;
 
     pci_write(g, INTCSR, incoming ? bits << 8 | other : other << 8 | bits);
-    if (one_in(g, 2))
-        write_frame(g, PCI_WRITE, 4 * box, enables);
+    if (!one_in(g, 3)) {
+        if (incoming)
+            read_frame(g, PCI_READ, 0x10 + 4 * box, enables);
+        else
+            write_frame(g, PCI_WRITE, 4 * box, enables);
+    }
     if (incoming)
         write_frame(g, ADDON_WRITE, 0x10 + 4 * box, enables);
     else
@@ -285,6 +290,101 @@ static void mailboxes_move(struct generator *g)
         for (uint32_t n = below(g, 6); n > 0; n--)
             mail_traffic(g);
     }
+}
+
+/* ---- polls ---- */
+
+/* The driver chooses a byte of each half, mostly with both events on and no
+ * flag left. */
+static void choose_bytes(struct generator *g)
+{
+    uint32_t bits = random32(g) & 0x0F0F;
+
+    if (!one_in(g, 6))
+        bits |= 0x0010;
+    if (!one_in(g, 6))
+        bits |= 0x1000;
+    if (!one_in(g, 6))
+        bits |= 0x003F0000;
+    pci_write(g, INTCSR, bits);
+}
+
+/* An access to a half's chosen mailbox: mostly the chosen byte, alone or
+ * with others, else any bytes. */
+static void touch_chosen(struct generator *g, uint32_t kind, bool incoming)
+{
+    uint32_t choice = g->chip.intcsr >> (incoming ? 8 : 0) & 15;
+    uint32_t offset = (incoming ? 0x10 : 0) + choice / 4 * 4;
+    uint32_t enables = one_in(g, 2) ? below(g, 16) : 0;
+
+    if (!one_in(g, 8))
+        enables |= UINT32_C(1) << choice % 4;
+    write_frame(g, kind, offset, enables);
+}
+
+/* The driver looks at the flags and mostly clears them. */
+static void take_flags(struct generator *g)
+{
+    frame(g, PCI_READ, 0x38, 15, 0);
+    if (!one_in(g, 4))
+        frame(g, PCI_WRITE, 0x38, 4, 0x003F0000);
+}
+
+/* All marks emptied while some may be set; sometimes byte 3 is missing. */
+static void clear_marks(struct generator *g)
+{
+    frame(g, PCI_WRITE, 0x3C, one_in(g, 4) ? below(g, 16) : 8,
+          0x08000000 | (g->chip.mcsr & 0xFF00));
+    frame(g, PCI_READ, 0x38, 15, 0);
+}
+
+/* The card asks again and again for a message that comes once, and writes
+ * its answers without waiting for the driver. */
+static void poll_once(struct generator *g)
+{
+    switch (below(g, 10)) {
+    case 0:
+    case 1:
+        touch_chosen(g, PCI_WRITE, false);
+        break;
+    case 2:
+    case 3:
+    case 4:
+        for (uint32_t n = 1 + below(g, 3); n > 0; n--)
+            touch_chosen(g, ADDON_READ, false);
+        break;
+    case 5:
+    case 6:
+        for (uint32_t n = 1 + below(g, 3); n > 0; n--)
+            touch_chosen(g, ADDON_WRITE, true);
+        break;
+    case 7:
+        touch_chosen(g, PCI_READ, true);
+        break;
+    case 8:
+        touch_chosen(g, one_in(g, 2) ? PCI_READ : ADDON_WRITE, false);
+        touch_chosen(g, one_in(g, 2) ? ADDON_READ : PCI_WRITE, true);
+        break;
+    default:
+        if (one_in(g, 2))
+            clear_marks(g);
+        else if (one_in(g, 4))
+            plain_frame(g, CHIP_RESET);
+        else
+            frame(g, PCI_READ, 0x34, 15, 0);
+    }
+}
+
+static void polls_move(struct generator *g)
+{
+    choose_bytes(g);
+    for (uint32_t n = 4 + below(g, 20); n > 0; n--) {
+        poll_once(g);
+        if (one_in(g, 3))
+            take_flags(g);
+    }
+    if (one_in(g, 8))
+        look(g);
 }
 
 /* ---- FIFOs ---- */
@@ -539,10 +639,14 @@ static void other_flags(struct generator *g)
     uint32_t enables = random32(g) & 0xC000;
 
     pci_write(g, INTCSR, 0x1010 | enables);
-    if (one_in(g, 2))
+    if (one_in(g, 2)) {
+        write_frame(g, PCI_WRITE, 0, 1);
         frame(g, ADDON_READ, 0, 1, 0);
-    if (one_in(g, 2))
+    }
+    if (one_in(g, 2)) {
+        frame(g, PCI_READ, 0x10, 1, 0);
         write_frame(g, ADDON_WRITE, 0x10, 1);
+    }
     if (one_in(g, 2)) {
         set_up_inside(g, true, 4);
         port_write(g, false, 15);
@@ -867,7 +971,7 @@ static void resets_move(struct generator *g)
 {
     static move *const moves[] = {
         registers_move, mailboxes_move, fifos_move, transfers_move,
-        aborts_move, unknown_move, mailboxes_move, fifos_move
+        aborts_move, unknown_move, polls_move, fifos_move
     };
 
     for (uint32_t n = 1 + below(g, 3); n > 0; n--)
@@ -888,7 +992,7 @@ static void resets_move(struct generator *g)
 static void all_move(struct generator *g)
 {
     static move *const moves[] = {
-        registers_move, mailboxes_move, mailboxes_move, fifos_move,
+        registers_move, mailboxes_move, polls_move, fifos_move,
         fifos_move, transfers_move, transfers_move, transfers_move,
         aborts_move, unknown_move, broken_move, resets_move
     };
@@ -910,7 +1014,7 @@ static const struct {
     { "fifos", fifos_move }, { "transfers", transfers_move },
     { "aborts", aborts_move }, { "unknown", unknown_move },
     { "broken", broken_move }, { "resets", resets_move },
-    { "all", all_move }, { "sets", broken_move }
+    { "all", all_move }, { "polls", polls_move }, { "sets", broken_move }
 };
 
 enum { PROFILES = sizeof profiles / sizeof profiles[0],

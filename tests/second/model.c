@@ -124,6 +124,22 @@ static void intcsr_write(struct controller *c, uint32_t data, uint32_t mask)
     c->intcsr = merge(c->intcsr, data, mask & INTCSR_KEPT);
 }
 
+/* Both events take the status bits of the bytes that have just changed
+ * over, and look for the chosen one among them. */
+
+static void event_emptied(struct controller *c, uint32_t bytes)
+{
+    if (c->intcsr & BIT(4) && bytes >> (c->intcsr & 15) & 1)
+        c->intcsr |= BIT(16);
+}
+
+static void event_filled(struct controller *c, uint32_t bytes)
+{
+    if (c->intcsr & BIT(12) && bytes >> (16 + (c->intcsr >> 8 & 15)) & 1)
+        c->intcsr |= BIT(17);
+}
+
+/* Marks emptied here are nobody's message: no event. */
 static void mcsr_write(struct controller *c, uint32_t data, uint32_t mask)
 {
     uint32_t ones = data & mask;
@@ -208,11 +224,10 @@ static uint32_t addon_read(struct controller *c, uint32_t place,
     if (place == MAIL_STATUS)
         return c->marks;
     if (place < 4) {
-        uint32_t touched = marks_of(place, enables);
+        uint32_t emptied = c->marks & marks_of(place, enables);
 
-        c->marks &= ~touched;
-        if (c->intcsr & BIT(4) && touched >> (c->intcsr & 15) & 1)
-            c->intcsr |= BIT(16);
+        c->marks &= ~emptied;
+        event_emptied(c, emptied);
     }
     return c->mail[place];
 }
@@ -220,16 +235,15 @@ static uint32_t addon_read(struct controller *c, uint32_t place,
 static void addon_write(struct controller *c, uint32_t place,
                         uint32_t enables, uint32_t data)
 {
-    uint32_t touched;
+    uint32_t filled;
 
     if (place == FIFO_PORT) {
         fifo_put(&c->to_pci, data);
         return;
     }
-    touched = marks_of(place, enables);
+    filled = marks_of(place, enables) & ~c->marks;
     mail_write(c, place, enables, data);
-    if (c->intcsr & BIT(12) && touched >> (16 + (c->intcsr >> 8 & 15)) & 1)
-        c->intcsr |= BIT(17);
+    event_filled(c, filled);
 }
 
 /* Code 8: the port is written when full or read when empty. */
@@ -265,11 +279,14 @@ static uint32_t access_code(const struct controller *c, const struct step *s)
     return DONE;
 }
 
+/* Of the other registers MCSR alone changes marks, and doesn't show it. */
 static struct answer do_access(struct controller *c, const struct step *s)
 {
     uint32_t code = access_code(c, s);
     uint32_t place = s->offset / 4;
+    uint32_t before = c->marks;
     uint32_t data = 0;
+    struct answer a;
 
     if (code != DONE)
         return answer_of(c, code, 0);
@@ -286,7 +303,10 @@ static struct answer do_access(struct controller *c, const struct step *s)
     default:
         addon_write(c, place, s->enables, s->data);
     }
-    return answer_of(c, DONE, data);
+    a = answer_of(c, DONE, data);
+    if (place < MAILBOXES)
+        a.changed = before ^ c->marks;
+    return a;
 }
 
 /* The place of the word in the window; the subtraction is modulo 2^32. */

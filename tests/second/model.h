@@ -68,6 +68,7 @@ struct step {
 
 struct answer {
     uint32_t code, address, data, enables, line;
+    uint32_t changed;           /* marks that changed; not in the log */
 };
 
 /* The label of each code in each set. */

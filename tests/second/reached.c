@@ -21,6 +21,8 @@ enum {
 };
 enum { PCI, ADDON, SIDES };
 enum { READ, WRITTEN, REFUSED, USES };
+enum { OUTGOING, INCOMING, HALVES };
+enum { RAISED, NO_CHANGE, BY_DRIVER, EVENT_OFF, CLEARED, AT_RESET, CASES };
 
 /* The start of a line and its whole length. */
 struct line {
@@ -34,6 +36,13 @@ struct account {
     uint64_t full, empty;       /* how often it became so */
 };
 
+/* The mailboxes by their own account, as far as events go by it. */
+struct mail_account {
+    uint32_t marks;
+    uint32_t intcsr;            /* bits 15 to 0 as last written */
+    uint32_t line;              /* of the answer before */
+};
+
 struct reached {
     uint32_t set;
     uint64_t lines, broken;
@@ -42,6 +51,8 @@ struct reached {
     uint64_t mail_read[16], mail_write[16];
     uint64_t intcsr_set[32], mcsr_set[8], mcsr_clear[8];
     struct account to_addon, to_pci;
+    struct mail_account mail;
+    uint64_t event[HALVES][CASES];
     unsigned missed;
 };
 
@@ -53,6 +64,18 @@ static const char *const kind_name[KINDS] = {
 /* One bit for each code that frames can get from each kind. */
 static const uint32_t possible[KINDS] = {
     0x0151, 0x01D1, 0x0151, 0x01D1, 0x3E01, 0x3E01, 0x0001, 0x0008
+};
+
+static const char *const half_name[HALVES] = { "outgoing", "incoming" };
+
+/* What happened to a half's chosen byte, and whether the line rose. */
+static const char *const event_name[CASES] = {
+    "the card changed its mark, the line rose",
+    "the card left its mark, no rise",
+    "the driver changed its mark, no rise",
+    "the card changed its mark with the event off",
+    "full at a clear, no rise",
+    "full at a reset"
 };
 
 static const uint32_t table_of[SIDES] = { PCI_TABLE, ADDON_TABLE };
@@ -171,6 +194,97 @@ static bool keep_account(struct reached *r, const struct step *s)
     }
 }
 
+/* The mailbox bytes of a done access, as status bits. */
+static uint32_t touched(const struct step *s)
+{
+    if (s->kind > ADDON_WRITE || s->offset >= 4 * MAILBOXES)
+        return 0;
+    return s->enables << s->offset;
+}
+
+static bool empties_all(const struct step *s)
+{
+    return s->kind == PCI_WRITE && s->offset == 4 * MCSR
+        && s->enables & 8 && s->data & 0x08000000;
+}
+
+/* The marks that a done step leaves. */
+static uint32_t marks_after(const struct step *s, uint32_t marks)
+{
+    uint32_t bytes = touched(s);
+
+    if (s->kind == CHIP_RESET || empties_all(s))
+        return 0;
+    if (s->kind == PCI_WRITE || s->kind == ADDON_WRITE)
+        return marks | bytes;
+    return marks & ~(bytes & (s->kind == PCI_READ ? 0xFFFF0000 : 0xFFFF));
+}
+
+/* The low half of INTCSR that a done step leaves. */
+static uint32_t intcsr_after(const struct step *s, uint32_t intcsr)
+{
+    uint32_t mask = (s->enables & 1 ? 0xFFu : 0)
+                  | (s->enables & 2 ? 0xFF00u : 0);
+
+    if (s->kind == CHIP_RESET)
+        return 0;
+    if (s->kind == PCI_WRITE && s->offset == 4 * INTCSR)
+        return (intcsr & ~mask) | (s->data & mask);
+    return intcsr;
+}
+
+/* What a done step is to a half's chosen byte; CASES if nothing of these.
+ * Where the line was 0 and the event on, its flag was clear, and the line
+ * answered tells whether the step set it. */
+static int event_case(const struct reached *r, const struct step *s,
+                      const struct answer *a, int half)
+{
+    uint32_t bits = r->mail.intcsr >> 8 * half;
+    uint32_t chosen = UINT32_C(1) << (16 * half + (int)(bits & 15));
+    uint32_t full = r->mail.marks & chosen;
+    bool changes = (marks_after(s, r->mail.marks) & chosen) != full;
+    bool by_card = s->kind == (half == OUTGOING ? ADDON_READ : ADDON_WRITE);
+    bool on = bits >> 4 & 1;
+
+    if (r->mail.line != 0)
+        return CASES;
+    if (s->kind == CHIP_RESET)
+        return on && full ? AT_RESET : CASES;
+    if (empties_all(s))
+        return on && full && a->line == 0 ? CLEARED : CASES;
+    if (!(touched(s) & chosen))
+        return CASES;
+    if (!on)
+        return by_card && changes ? EVENT_OFF : CASES;
+    if (by_card && changes)
+        return a->line == 1 ? RAISED : CASES;
+    if (a->line != 0 || by_card == changes)
+        return CASES;
+    return by_card ? NO_CHANGE : BY_DRIVER;
+}
+
+/* A done read of the status has to show the marks of the account. */
+static bool shows_marks(const struct reached *r, const struct step *s,
+                        const struct answer *a)
+{
+    return (s->kind != PCI_READ && s->kind != ADDON_READ)
+        || s->offset != 4 * MAIL_STATUS || s->enables != 15
+        || a->data == r->mail.marks;
+}
+
+static void note_events(struct reached *r, const struct step *s,
+                        const struct answer *a)
+{
+    for (int half = 0; half < HALVES; half++) {
+        int found = event_case(r, s, a, half);
+
+        if (found != CASES)
+            r->event[half][found]++;
+    }
+    r->mail.marks = marks_after(s, r->mail.marks);
+    r->mail.intcsr = intcsr_after(s, r->mail.intcsr);
+}
+
 /* The bits of INTCSR and MCSR that a PCI read has shown. */
 static void note_bits(struct reached *r, uint32_t place, uint32_t enables,
                       uint32_t data)
@@ -230,7 +344,11 @@ static bool measure(struct reached *r, const struct line *frame,
     r->pair[kind][a.code]++;
     if (s.kind <= ADDON_WRITE)
         note_access(r, &s, &a);
-    return a.code != DONE || keep_account(r, &s);
+    if (a.code == DONE)
+        note_events(r, &s, &a);
+    r->mail.line = a.line;
+    return a.code != DONE
+        || (keep_account(r, &s) && shows_marks(r, &s, &a));
 }
 
 static bool measure_files(struct reached *r, FILE *frames, FILE *log)
@@ -275,6 +393,15 @@ static void print_registers(const struct reached *r)
                        name[side], 4 * i, r->use[side][i][READ],
                        r->use[side][i][WRITTEN],
                        r->use[side][i][REFUSED]);
+}
+
+static void print_events(const struct reached *r)
+{
+    puts("the chosen byte of each half");
+    for (int half = 0; half < HALVES; half++)
+        for (int i = 0; i < CASES; i++)
+            printf("  %s: %s %" PRIu64 "\n", half_name[half],
+                   event_name[i], r->event[half][i]);
 }
 
 static void print_rest(const struct reached *r)
@@ -344,6 +471,18 @@ static void need_registers(struct reached *r)
         }
 }
 
+static void need_events(struct reached *r)
+{
+    for (int half = 0; half < HALVES; half++)
+        for (int i = 0; i < CASES; i++)
+            if (r->event[half][i] == 0) {
+                printf("%schosen %s byte: %s",
+                       r->missed == 0 ? "missed: " : ", ", half_name[half],
+                       event_name[i]);
+                r->missed++;
+            }
+}
+
 static void need_rest(struct reached *r)
 {
     need(r, r->to_addon.full, "PCI-to-Add-On FIFO", "fill", 8);
@@ -395,9 +534,11 @@ int main(int argc, char **argv)
     fclose(log);
     print_pairs(&r);
     print_registers(&r);
+    print_events(&r);
     print_rest(&r);
     need_pairs(&r);
     need_registers(&r);
+    need_events(&r);
     need_rest(&r);
     puts(r.missed == 0 ? "reached: all" : "");
     return r.missed == 0 ? 0 : 1;

@@ -8,8 +8,8 @@
 #include <stdlib.h>
 #include <string.h>
 
-enum { FIELDS = 7, LINE_SIZE = 1024, LOG_LINE_SIZE = 64 };
-enum { NAME, BEFORE, WINDOW, STEP, LOG_LINE, AFTER, MEMORY };
+enum { FIELDS = 8, LINE_SIZE = 1024, LOG_LINE_SIZE = 64, CHANGED_SIZE = 9 };
+enum { NAME, BEFORE, WINDOW, STEP, LOG_LINE, AFTER, MEMORY, CHANGED };
 
 struct test_case {
     char *field[FIELDS];
@@ -115,7 +115,7 @@ static bool take_memory(char *text, struct test_case *t)
         && t->place < t->window.count;
 }
 
-/* Splits the line at " | "; false if there are not seven fields. */
+/* Splits the line at " | "; false if there are not eight fields. */
 static bool split(char *line, char *field[FIELDS])
 {
     static const char bar[] = " | ";
@@ -186,17 +186,19 @@ static bool memory_as_written(const struct test_case *t)
 /* Makes the step on a window already filled, and compares everything. */
 static bool case_holds(struct test_case *t)
 {
-    char line[LOG_LINE_SIZE];
+    char line[LOG_LINE_SIZE], changed[CHANGED_SIZE];
     struct controller chip = t->before;
     struct answer a = model_step(&chip, &t->window, &t->step);
-    bool line_same, state_same, memory_same;
+    bool line_same, state_same, memory_same, changed_same;
 
     snprintf(line, sizeof line, "%02X%08X%08X%X%X %s", (unsigned)a.code,
              (unsigned)a.address, (unsigned)a.data, (unsigned)a.enables,
              (unsigned)a.line, model_label[ENGLISH][a.code]);
+    snprintf(changed, sizeof changed, "%08X", (unsigned)a.changed);
     line_same = strcmp(line, t->field[LOG_LINE]) == 0;
     state_same = same_state(&chip, &t->after);
     memory_same = memory_as_written(t);
+    changed_same = strcmp(changed, t->field[CHANGED]) == 0;
     if (!line_same)
         printf("%s: line is %s, not %s\n", t->field[NAME], line,
                t->field[LOG_LINE]);
@@ -204,7 +206,10 @@ static bool case_holds(struct test_case *t)
         printf("%s: state afterwards differs\n", t->field[NAME]);
     if (!memory_same)
         printf("%s: memory afterwards differs\n", t->field[NAME]);
-    return line_same && state_same && memory_same;
+    if (!changed_same)
+        printf("%s: marks changed are %s, not %s\n", t->field[NAME],
+               changed, t->field[CHANGED]);
+    return line_same && state_same && memory_same && changed_same;
 }
 
 /* Lends a window of exactly the size asked for, none for zero words. */

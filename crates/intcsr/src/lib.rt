@@ -3,7 +3,6 @@ ghost use mathlib.Core.Path.{_≡_};
 ghost use mathlib.Core.Bool.{cond};
 ghost use lib.Dec.{eqb};
 ghost use Rattle.machine.specs.Words.{raised};
-ghost use Rattle.machine.specs.Access.{accessOf};
 ghost use Rattle.machine.specs.Cycles.{runsOut};
 ghost use Rattle.machine.specs.Intcsr.{intcsrWritten, outgoingEvent, incomingEvent, intcsrAborted, lineOf, intcsrRead, abortIn};
 use controller::ByteCount;
@@ -20,8 +19,10 @@ const OUTGOING_ENABLE: u32 = 4;
 
 const INCOMING_ENABLE: u32 = 12;
 
-// Where the choice of the incoming byte begins.
+// Where the choice of the incoming byte begins, and how many bytes there are to choose from in each half of the status.
 const INCOMING_CHOICE: u32 = 8;
+
+const HALF: u32 = 16;
 
 const WRITE_COUNT_ENABLE: u32 = 14;
 
@@ -51,22 +52,18 @@ fn written(old: u32, new: u32, enables: u32) -> u32
     word::written(KEPT, old, new, enables) | word::cleared(old & EVENTS, word::shown(new, enables))
 }
 
-// The outgoing event: it is enabled, and the Add-On takes the chosen byte.
-fn outgoing_event(i: u32, s: Step) -> bool
-    ensures { λ r. ⌜ r ≡ outgoingEvent i (accessOf s) ⌝ }
+// The outgoing event: it is enabled, and the mark of the chosen byte is among those that changed.
+fn outgoing_event(i: u32, changed: u32) -> bool
+    ensures { λ r. ⌜ r ≡ outgoingEvent i changed ⌝ }
 {
-    word::bit(i, OUTGOING_ENABLE) & mailboxes::takes_byte(i % mailboxes::HALF, s)
+    word::bit(i, OUTGOING_ENABLE) & word::bit(changed, i % HALF)
 }
 
-// The incoming event: it is enabled, and the Add-On fills the chosen byte.
-fn incoming_event(i: u32, s: Step) -> bool
-    ensures { λ r. ⌜ r ≡ incomingEvent i (accessOf s) ⌝ }
+// The incoming event: the same with the upper half.
+fn incoming_event(i: u32, changed: u32) -> bool
+    ensures { λ r. ⌜ r ≡ incomingEvent i changed ⌝ }
 {
-    word::bit(i, INCOMING_ENABLE)
-        & mailboxes::fills_byte(
-            mailboxes::HALF + (i >> INCOMING_CHOICE) % mailboxes::HALF,
-            s,
-        )
+    word::bit(i, INCOMING_ENABLE) & word::bit(changed, HALF + (i >> INCOMING_CHOICE) % HALF)
 }
 
 // INTCSR after a done step, kind by kind. A PCI read and a write elsewhere leave it.
@@ -79,16 +76,17 @@ pub fn after_pci_write(i: u32, s: Step) -> u32
     i
 }
 
-pub fn after_addon_read(i: u32, s: Step) -> u32
-    ensures { λ r. ⌜ r ≡ raised i (outgoingEvent i (accessOf s)) 16 ⌝ }
+// After an Add-On read, and after an Add-On write, by the marks that it changed.
+pub fn after_addon_read(i: u32, changed: u32) -> u32
+    ensures { λ r. ⌜ r ≡ raised i (outgoingEvent i changed) 16 ⌝ }
 {
-    word::raised(i, outgoing_event(i, s), OUTGOING_FLAG)
+    word::raised(i, outgoing_event(i, changed), OUTGOING_FLAG)
 }
 
-pub fn after_addon_write(i: u32, s: Step) -> u32
-    ensures { λ r. ⌜ r ≡ raised i (incomingEvent i (accessOf s)) 17 ⌝ }
+pub fn after_addon_write(i: u32, changed: u32) -> u32
+    ensures { λ r. ⌜ r ≡ raised i (incomingEvent i changed) 17 ⌝ }
 {
-    word::raised(i, incoming_event(i, s), INCOMING_FLAG)
+    word::raised(i, incoming_event(i, changed), INCOMING_FLAG)
 }
 
 // After a cycle with the count that it finds: the flag is set if the count runs out.

@@ -1,4 +1,4 @@
--- Every answer to a text is given, and the digits of a log line are the whole answer.
+-- Every answer to a text is given, and the digits of a log line are the answer as the log shows it.
 use Prim.Native.Nat.{ℕ}
 use mathlib.Core.Path.{_≡_, refl}
 use mathlib.Core.List.{List, [], _∷_}

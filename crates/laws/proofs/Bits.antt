@@ -1,11 +1,11 @@
 -- The bits of what the operations on words make. A number is its bits.
 use Prim.Native.Nat.{ℕ, zero, suc, _+_, _-_, _*_, _/_, _%_, _^_, _<_, _≤_, min, max}
 use mathlib.Core.Path.{_≡_, refl, sym, ap, ap₂, _∙_}
-use mathlib.Core.Bool.{Bool, true, false, not, _&&_, _||_, or-false, and-assoc, and-comm, and-or-distrib-right}
+use mathlib.Core.Bool.{Bool, true, false, cond, not, _&&_, _||_, or-false, and-assoc, and-comm, and-or-distrib-right}
 use native.Mathlib.Nat.{mod-lt, div-div-eq-div-mul, pow-suc, mul-comm, mul-one, one-mul, sub-zero, suc-sub-suc, zero-div, div-eq-of-lt, lt-of-lt-of-le, pow-le-pow-right}
 use native.Mathlib.Omega.{arith}
 use lib.Dec.{eqb, leb, ltb, leb·zero, leb·suc-zero, leb·suc-suc}
-use lib.Bits.{bitAnd, bitOr, and-mask, and-shr, or-shr, and-step, or-step, shifted-even, shifted-half}
+use lib.Bits.{bitAnd, bitOr, bitXor, differ, and-mask, and-shr, or-shr, and-step, or-step, xor-step, xor-shr, shifted-even, shifted-half}
 use lib.Pow.{pow-add}
 use borrow.Author.Tests.{eqb-true, eqb-false, eq-eqb, ne-eqb, leb-true, leb-false, lt-ltb, le-ltb}
 use Rattle.machine.specs.Words.{bit, flag, raised, cleared, only}
@@ -41,6 +41,21 @@ bit-or a b k = rw (or-shr, or-low) (max-or (a / 2 ^ k % 2) (b / 2 ^ k % 2) (mod-
 pub bit-and : (a b k : ℕ) → bit (bitAnd a b) k ≡ (bit a k && bit b k)
 unfolding bit
 bit-and a b k = rw (and-shr, and-low) (min-and (a / 2 ^ k % 2) (b / 2 ^ k % 2) (mod-lt (a / 2 ^ k) (omega arith)) (mod-lt (b / 2 ^ k) (omega arith)))
+
+digits-differ : (p q : ℕ) → p < 2 → q < 2 → (differ p q < 2) × (eqb (differ p q) 1 ≡ cond (eqb q 1) (not (eqb p 1)) (eqb p 1))
+digits-differ =
+    two-digits (λ p q. (differ p q < 2) × (eqb (differ p q) 1 ≡ cond (eqb q 1) (not (eqb p 1)) (eqb p 1)))
+    (omega arith, refl) (omega arith, refl) (omega arith, refl) (omega arith, refl)
+
+-- one that is turned where b has a one
+pub bit-xor : (a b k : ℕ) → bit (bitXor a b) k ≡ cond (bit b k) (not (bit a k)) (bit a k)
+unfolding bit
+bit-xor a b k =
+    let p = a / 2 ^ k in
+    let q = b / 2 ^ k in
+    let d = digits-differ (p % 2) (q % 2) (mod-lt p (omega arith)) (mod-lt q (omega arith)) in
+    let low : bitXor p q % 2 ≡ differ (p % 2) (q % 2) = omega (arith, xor-step p q, d .0) in
+    rw (xor-shr, low) (d .1)
 
 -- ---- halves and shifts
 
@@ -154,6 +169,16 @@ bits-below (suc n) a b ha hb h =
 
 pub by-bits : (a b : ℕ) → ((k : ℕ) → bit a k ≡ bit b k) → a ≡ b
 by-bits a b h = bits-below (a + b) a b (omega (arith, lt-power (a + b))) (omega (arith, lt-power (a + b))) h
+
+-- what is turned twice is as it was
+pub xor-twice : (a b : ℕ) → bitXor a (bitXor a b) ≡ b
+xor-twice a b = by-bits _ b (λ k. bit-xor a (bitXor a b) k ∙ rw (bit-xor a b k) (turned (bit a k) (bit b k)))
+  where
+    turned : (p q : Bool) → cond (cond q (not p) p) (not p) p ≡ q
+    turned true true = refl
+    turned true false = refl
+    turned false true = refl
+    turned false false = refl
 
 -- ---- no bit other than those of y
 

@@ -15,6 +15,7 @@ use Rattle.machine.specs.Access.{Access, accessOf, Kind, reading, writing, cycl
 use Rattle.machine.specs.Offsets.{fifoPort, addressAt, countAt, intcsrAt, mcsrAt}
 use Rattle.machine.specs.Commands.{clearsFifo}
 use Rattle.machine.specs.Fifos.{handedOut, fifoAfter, cycleFeeds, followed}
+use Rattle.machine.specs.Mailboxes.{changes}
 use Rattle.machine.specs.Mcsr.{mcsrKept, mcsrAfter}
 use Rattle.machine.specs.Cycles.{addressKept, countKept, nextAddress, countLeft, runsOut, addressAfter, countAfter, laneAfter}
 use Rattle.machine.specs.Intcsr.{intcsrKept, intcsrEvents, intcsrHeld, intcsrWritten, outgoingEvent, incomingEvent, countBit, intcsrAfter, intcsrAborted}
@@ -104,9 +105,9 @@ count-raised addon i on p = only-raised intcsrHeld i 18 on p refl
 intcsr-only : (k : Kind) (st : State) (x : Access) → Only intcsrHeld (st .intcsr) → Only intcsrHeld (intcsrAfter k st x)
 unfolding intcsrAfter
 intcsr-only (reading host) st x h = h
-intcsr-only (reading card) st x h = only-raised intcsrHeld (st .intcsr) 16 (outgoingEvent (st .intcsr) x) h refl
+intcsr-only (reading card) st x h = only-raised intcsrHeld (st .intcsr) 16 (outgoingEvent (st .intcsr) (changes x (st .marks))) h refl
 intcsr-only (writing host) st x h = if-so intcsrHeld (eqb (x .offset) intcsrAt) _ (st .intcsr) (intcsr-written (st .intcsr) (x .value) (x .enables)) h
-intcsr-only (writing card) st x h = only-raised intcsrHeld (st .intcsr) 17 (incomingEvent (st .intcsr) x) h refl
+intcsr-only (writing card) st x h = only-raised intcsrHeld (st .intcsr) 17 (incomingEvent (st .intcsr) (changes x (st .marks))) h refl
 intcsr-only (cycle side) st x h = count-raised side (st .intcsr) (runsOut (lane side st .count)) h
 intcsr-only chipReset st x h = h
 intcsr-only unknown st x h = h

@@ -45,7 +45,7 @@ named (suc (suc (suc (suc (suc (suc (suc n))))))) =
 
 -- what code 13 answers besides
 pub aborted-reply : (st : State) (k : ℕ)
-    → abortedReply (kindOf k) st ≡ record { address = cond (eqb k 4) (st .fromAddon .address) (cond (eqb k 5) (st .fromPci .address) 0); value = 0; enables = 0 }
+    → abortedReply (kindOf k) st ≡ record { address = cond (eqb k 4) (st .fromAddon .address) (cond (eqb k 5) (st .fromPci .address) 0); value = 0; enables = 0; changed = 0 }
 unfolding abortedReply
 aborted-reply st zero = refl
 aborted-reply st (suc zero) = refl

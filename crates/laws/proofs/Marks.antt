@@ -5,15 +5,22 @@ use mathlib.Core.Bool.{Bool, true, false, cond, not, _&&_, _||_, true≢false, a
 use native.Mathlib.Omega.{arith}
 use native.Mathlib.Nat.{mul-le-mul, pow-le-pow-right}
 use lib.Dec.{eqb, leb, ltb}
-use lib.Bits.{bitOr}
+use lib.Bits.{bitAnd, bitXor}
 use borrow.Author.Tests.{eqb-true, eqb-false, leb-true, le-leb, lt-ltb, le-ltb, ltb-true}
-use Rattle.machine.specs.Words.{bit, cleared}
+use Rattle.machine.specs.Words.{bit}
 use Rattle.machine.specs.Offsets.{isMailbox, reader}
 use Rattle.machine.specs.Access.{Access, isReadBy}
 use Rattle.machine.specs.Commands.{clearsMarks}
-use Rattle.machine.specs.Mailboxes.{marksAt, fills, takes, fillsByte, takesByte, marksAfter}
+use Rattle.machine.specs.Mailboxes.{marksAt, fills, takes, changes, marksAfter}
 use Rattle.laws.proofs.Tests.{and-left, and-right, cond-part}
-use Rattle.laws.proofs.Bits.{bit-or, bit-shl, bit-low, bit-cleared, bit-zero}
+use Rattle.laws.proofs.Bits.{bit-and, bit-xor, bit-shl, bit-low, bit-zero}
+
+-- an owner's write, and the other side's read, of byte k of the status: that byte enabled
+abbrev pub fillsByte : ℕ → Access → Bool
+fillsByte k x = fills x && bit (marksAt (x .offset) (x .enables)) k
+
+abbrev pub takesByte : ℕ → Access → Bool
+takesByte k x = takes x && bit (marksAt (x .offset) (x .enables)) k
 
 -- the marks of a mailbox's enabled bytes: byte k of the status is byte k % 4 of the mailbox at k / 4 * 4
 pub bit-marks : (o e k : ℕ) → isMailbox o ≡ true → bit (marksAt o e) k ≡ (eqb o (k / 4 * 4) && bit e (k % 4))
@@ -45,28 +52,40 @@ marks-lt o e m =
     let q : e % 16 * 2 ^ o ≤ 15 * 2 ^ 28 = mul-le-mul {n₁ = e % 16} {n₂ = 15} (omega arith) p in
     omega arith
 
--- a mark after a done step that is no reset: a clear empties it, its owner's write fills it, the other side's read empties it
-by-tests : (f t at b : Bool) → cond f (b || at) (cond t (b && not at) b) ≡ cond (f && at) true (cond (t && at) false b)
+-- ---- the marks that an access changes, one by one
+
+by-tests : (f t at b : Bool) → cond f (at && cond b (not at) at) (cond t (at && b) false) ≡ cond (f && at) (not b) (t && at && b)
 by-tests true t true true = refl
 by-tests true t true false = refl
-by-tests true t false b = or-false b ∙ sym (rw (and-false t))
-by-tests false true true b = and-false b
-by-tests false true false b = and-true b
+by-tests true true false b = refl
+by-tests true false false b = refl
+by-tests false true true b = refl
+by-tests false true false b = refl
 by-tests false false at b = refl
+
+-- its owner's write changes the mark of an empty byte, the other side's read that of a full one
+pub change-at : (k : ℕ) (x : Access) (marks : ℕ) → bit (changes x marks) k ≡ cond (fillsByte k x) (not (bit marks k)) (takesByte k x && bit marks k)
+unfolding changes
+change-at k x marks =
+    let m = marksAt (x .offset) (x .enables) in
+    let P : ℕ → Bool = λ w. bit w k in
+    cond-part P (fills x) _ _
+    ∙ (λ i. cond (fills x) (bit-and m (bitXor m marks) k i) (cond-part P (takes x) (bitAnd m marks) 0 i))
+    ∙ (λ i. cond (fills x) (bit m k && bit-xor m marks k i) (cond (takes x) (bit-and m marks k i) (bit-zero k i)))
+    ∙ by-tests (fills x) (takes x) (bit m k) (bit marks k)
+
+-- a mark after a done step that is no reset: a clear empties it, its owner's write fills it, the other side's read empties it
+turned : (f t b : Bool) → cond (cond f (not b) (t && b)) (not b) b ≡ cond f true (cond t false b)
+turned true t true = refl
+turned true t false = refl
+turned false true true = refl
+turned false true false = refl
+turned false false b = refl
 
 pub mark-after : (k : ℕ) → k < 32 → (x : Access) (marks : ℕ)
     → bit (marksAfter x marks) k ≡ cond (clearsMarks x) false (cond (fillsByte k x) true (cond (takesByte k x) false (bit marks k)))
 unfolding marksAfter
 mark-after k h x marks =
-    let m = marksAt (x .offset) (x .enables) in
-    let P : ℕ → Bool = λ w. bit w k in
-    cond-part P (clearsMarks x) 0 _
-    ∙ (λ i. cond (clearsMarks x) (bit-zero k i) (cond-part P (fills x) (bitOr marks m) (cond (takes x) (cleared marks m) marks) i))
-    ∙ (λ i. cond (clearsMarks x) false (cond (fills x) (bit-or marks m k i) (cond-part P (takes x) (cleared marks m) marks i)))
-    ∙ (λ i. cond (clearsMarks x) false (cond (fills x) (bit marks k || bit m k) (took (takes x) refl i)))
-    ∙ (λ i. cond (clearsMarks x) false (by-tests (fills x) (takes x) (bit m k) (bit marks k) i))
-  where
-    took : (t : Bool) → takes x ≡ t
-        → cond t (bit (cleared marks (marksAt (x .offset) (x .enables))) k) (bit marks k) ≡ cond t (bit marks k && not (bit (marksAt (x .offset) (x .enables)) k)) (bit marks k)
-    took true e = bit-cleared marks (marksAt (x .offset) (x .enables)) k (marks-lt (x .offset) (x .enables) (and-right (isReadBy (reader (x .offset)) (x .kind)) (isMailbox (x .offset)) e)) h
-    took false e = refl
+    cond-part (λ w. bit w k) (clearsMarks x) 0 _
+    ∙ (λ i. cond (clearsMarks x) (bit-zero k i) (bit-xor marks (changes x marks) k i))
+    ∙ rw (change-at k x marks) (ap (λ b. cond (clearsMarks x) false b) (turned (fillsByte k x) (takesByte k x) (bit marks k)))

@@ -39,6 +39,7 @@ fn not_a_frame(i: u32) -> Answer
         value: 0,
         enables: 0,
         line,
+        changed: 0,
     }
 }
 

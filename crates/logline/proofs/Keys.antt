@@ -1,4 +1,4 @@
--- No two labels are alike, and the digits of a log line are the whole answer.
+-- No two labels are alike, and the digits of a log line are the answer as the log shows it.
 use Prim.Native.Nat.{ℕ, _+_, _<_, _^_}
 use mathlib.Core.Path.{_≡_, refl, sym, ap, _∙_}
 use mathlib.Core.Bool.{Bool, true, false, cond, _&&_}
@@ -8,6 +8,7 @@ use lib.Dec.{eqb, lit<}
 use borrow.Author.Tests.{eqb-true, eq-eqb, ltb-true}
 use lib.ListN.{length, take, length-append}
 use lib.Seq.{take-append-seam, drop-append-seam}
+use Rattle.machine.specs.Event.{logged}
 use Rattle.machine.specs.declared.Answer.{Answer}
 use Rattle.hex.specs.Hex.{bytes, digits, number}
 use Rattle.laws.proofs.Below.{below, below-at}
@@ -83,7 +84,7 @@ pub record InDigits (a : Answer) : Type 0 where
   pub value : a .value < 16 ^ 8
   pub enables : a .enables < 16 ^ 1
 
-pub digits-are-key : (set other : ℕ) (a b : Answer) → InDigits a → InDigits b → take 20 (logLine set a) ≡ take 20 (logLine other b) → a ≡ b
+pub digits-are-key : (set other : ℕ) (a b : Answer) → InDigits a → InDigits b → take 20 (logLine set a) ≡ take 20 (logLine other b) → logged a ≡ logged b
 unfolding numbers
 digits-are-key set other a b f g e =
     let all = sym (first-20 set a) ∙ e ∙ first-20 other b in
@@ -109,4 +110,4 @@ digits-are-key set other a b f g e =
     let value = one 8 (a .value) (b .value) (f .value) (g .value) (tails d (digits 8 (a .value)) d′ (digits 8 (b .value)) d-long v-same) in
     let enables = one 1 (a .enables) (b .enables) (f .enables) (g .enables) (tails v (digits 1 (a .enables)) v′ (digits 1 (b .enables)) v-long n-same) in
     let line = line-key (a .line) (b .line) (tails n l n′ l′ n-long all) in
-    λ i. record { code = code i; address = address i; value = value i; enables = enables i; line = line i }
+    λ i. record { code = code i; address = address i; value = value i; enables = enables i; line = line i; changed = 0 }

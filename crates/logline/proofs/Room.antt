@@ -1,6 +1,6 @@
 -- The line that is written, by whether there is room for it.
 use Prim.Native.Nat.{ℕ, _+_, _≤_, _<_, zero-le}
-use mathlib.Core.Path.{_≡_, refl}
+use mathlib.Core.Path.{_≡_, refl, ap}
 use mathlib.Core.List.{List, []}
 use mathlib.Core.Bool.{Bool, true, false, cond}
 use native.Mathlib.Omega.{arith}
@@ -11,7 +11,7 @@ use Rattle.machine.specs.declared.Answer.{Answer}
 use Rattle.hex.specs.Hex.{hexDigits, digitOf, digits}
 use Rattle.logline.specs.Labels.{english, labelSets, labelOf}
 use Rattle.logline.specs.LogLine.{numbers, logBody, logLine, refusal, lineRoom, lineIn}
-use Rattle.logline.specs.Promises.{LineRoom, RefusalLine}
+use Rattle.logline.specs.Promises.{LineRoom, MarksUnlogged, RefusalLine}
 use Rattle.logline.proofs.Labels.{line-fits}
 
 module _ (set : ℕ) (out : List ℕ) (at : ℕ) (a : Answer) where
@@ -33,6 +33,10 @@ module _ (set : ℕ) (out : List ℕ) (at : ℕ) (a : Answer) where
 
 pub line-room : LineRoom
 line-room set out at a = (in-room set out at a, no-room set out at a)
+
+pub marks-unlogged : MarksUnlogged
+unfolding logLine logBody numbers
+marks-unlogged set a b e = ap (logLine set) e
 
 pub refusal-line : RefusalLine
 unfolding refusal logLine logBody numbers digits digitOf hexDigits labelOf labelSets english

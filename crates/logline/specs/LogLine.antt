@@ -23,7 +23,7 @@ logLine set a = logBody set a ++ bytes "\n"
 
 -- an unknown label set is answered by code 15 and nothing else (document 02, Ask 1)
 abbrev pub unknownSet : Answer
-unknownSet = record { code = unknownLabelSet; address = 0; value = 0; enables = 0; line = false }
+unknownSet = record { code = unknownLabelSet; address = 0; value = 0; enables = 0; line = false; changed = 0 }
 
 -- the one line that refuses it, with its English label
 unfoldable pub refusal : List ℕ

@@ -5,6 +5,7 @@ use mathlib.Core.List.{List, []}
 use mathlib.Core.Bool.{Bool, true, _&&_}
 use lib.ListN.{length, getD}
 use lib.Dec.{leb, ltb}
+use Rattle.machine.specs.Event.{logged}
 use Rattle.machine.specs.declared.Answer.{Answer}
 use Rattle.hex.specs.Hex.{bytes}
 use Rattle.logline.specs.Wrote.{Wrote}
@@ -40,6 +41,10 @@ abbrev pub LineRoom : Type 0
 LineRoom =
     (set : ℕ) (out : List ℕ) (at : ℕ) (a : Answer)
     → (at + 40 ≤ length out → lineIn set out at a ≡ logLine set a) × (length out < at + 40 → lineIn set out at a ≡ [])
+
+-- `marks-unlogged`: the log does not show which marks changed: answers that are else alike have one log line
+abbrev pub MarksUnlogged : Type 0
+MarksUnlogged = (set : ℕ) (a b : Answer) → logged a ≡ logged b → logLine set a ≡ logLine set b
 
 -- `refusal-line`: the line that refuses an unknown set, byte for byte
 abbrev pub RefusalLine : Type 0

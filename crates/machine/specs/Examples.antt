@@ -62,25 +62,29 @@ readCycle = stepBy 5 0 0 0
 
 -- done, with data, the interrupt line low
 abbrev pub says : ℕ → Answer
-says value = record { code = 0; address = 0; value = value; enables = 0; line = false }
+says value = record { code = 0; address = 0; value = value; enables = 0; line = false; changed = 0 }
 
 abbrev pub ok : Answer
 ok = says 0
 
 -- a done cycle: its address, its word, its enables
 abbrev pub moves : ℕ → ℕ → ℕ → Answer
-moves address value enables = record { code = 0; address = address; value = value; enables = enables; line = false }
+moves address value enables = record { code = 0; address = address; value = value; enables = enables; line = false; changed = 0 }
 
 abbrev pub refuses : ℕ → Answer
-refuses code = record { code = code; address = 0; value = 0; enables = 0; line = false }
+refuses code = record { code = code; address = 0; value = 0; enables = 0; line = false; changed = 0 }
 
 -- code 13: the address, and the line is high
 abbrev pub absent : ℕ → Answer
-absent address = record { code = 13; address = address; value = 0; enables = 0; line = true }
+absent address = record { code = 13; address = address; value = 0; enables = 0; line = true; changed = 0 }
 
 -- the same answer with the line high
 abbrev pub high : Answer → Answer
-high a = record { code = a .code; address = a .address; value = a .value; enables = a .enables; line = true }
+high a = record { code = a .code; address = a .address; value = a .value; enables = a .enables; line = true; changed = a .changed }
+
+-- the same answer with marks that changed
+abbrev pub turning : ℕ → Answer → Answer
+turning changed a = record { code = a .code; address = a .address; value = a .value; enables = a .enables; line = a .line; changed = changed }
 
 -- ---- the table
 
@@ -140,7 +144,7 @@ marked =
     ∷ addonWrite 0x20 8 ∷ addonWrite 0x20 9 ∷ pciRead 0x20 ∷ addonWrite 0x20 10 ∷ [])
     (ok ∷ ok ∷ ok ∷ ok ∷ ok ∷ ok ∷ ok ∷ ok ∷ refuses 8 ∷ says 1 ∷ ok ∷ [])
     -- 6
-    ∷ example (stepBy 3 0x10 1 0xA5 ∷ pciRead 0x34 ∷ stepBy 0 0x10 1 0 ∷ []) (ok ∷ says 0x10000 ∷ says 0xA5 ∷ [])
+    ∷ example (stepBy 3 0x10 1 0xA5 ∷ pciRead 0x34 ∷ stepBy 0 0x10 1 0 ∷ []) (turning 0x10000 ok ∷ says 0x10000 ∷ turning 0x10000 (says 0xA5) ∷ [])
     -- 7
     ∷ afterSeven [] []
     -- 8

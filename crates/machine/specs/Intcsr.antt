@@ -8,7 +8,7 @@ use Rattle.machine.specs.Sides.{Side, pci, addon, host, card}
 use Rattle.machine.specs.State.{State, lane}
 use Rattle.machine.specs.Offsets.{intcsrAt}
 use Rattle.machine.specs.Access.{Access, Kind, reading, writing, cycle, chipReset, unknown}
-use Rattle.machine.specs.Mailboxes.{fillsByte, takesByte}
+use Rattle.machine.specs.Mailboxes.{changes}
 use Rattle.machine.specs.Cycles.{runsOut}
 
 -- the bits that stay as written: 4 to 0, 12 to 8, 15 and 14
@@ -34,24 +34,25 @@ chosenOutgoing i = i % 2 ^ 4
 abbrev pub chosenIncoming : ℕ → ℕ
 chosenIncoming i = 16 + i / 2 ^ 8 % 2 ^ 4
 
--- the outgoing event, enabled by bit 4: the chosen byte is read by the other side; the incoming one, enabled by 12: it is written by its owner
-unfoldable pub outgoingEvent : ℕ → Access → Bool
-outgoingEvent i x = bit i 4 && takesByte (chosenOutgoing i) x
+-- Ask 2, by the marks that an access changes: the outgoing event, enabled by bit 4, is that the chosen byte's does; the incoming one is enabled by 12
+unfoldable pub outgoingEvent : ℕ → ℕ → Bool
+outgoingEvent i changed = bit i 4 && bit changed (chosenOutgoing i)
 
-unfoldable pub incomingEvent : ℕ → Access → Bool
-incomingEvent i x = bit i 12 && fillsByte (chosenIncoming i) x
+unfoldable pub incomingEvent : ℕ → ℕ → Bool
+incomingEvent i changed = bit i 12 && bit changed (chosenIncoming i)
 
 -- the flag of a cycle that uses its count up: 18 of a write cycle, 19 of a read cycle
 abbrev pub countBit : Side → ℕ
 countBit pci = 19
 countBit addon = 18
 
--- INTCSR after a done step that is no reset: 16 by an Add-On read, 17 by an Add-On write, 18 and 19 by a cycle only
+-- INTCSR after a done step that is no reset: 16 by an Add-On read, which can change outgoing marks alone, 17 by an Add-On write, which can change
+-- incoming ones alone, 18 and 19 by a cycle
 unfoldable pub intcsrAfter : Kind → State → Access → ℕ
 intcsrAfter (reading host) st x = st .intcsr
-intcsrAfter (reading card) st x = raised (st .intcsr) (outgoingEvent (st .intcsr) x) 16
+intcsrAfter (reading card) st x = raised (st .intcsr) (outgoingEvent (st .intcsr) (changes x (st .marks))) 16
 intcsrAfter (writing host) st x = cond (eqb (x .offset) intcsrAt) (intcsrWritten (st .intcsr) (x .value) (x .enables)) (st .intcsr)
-intcsrAfter (writing card) st x = raised (st .intcsr) (incomingEvent (st .intcsr) x) 17
+intcsrAfter (writing card) st x = raised (st .intcsr) (incomingEvent (st .intcsr) (changes x (st .marks))) 17
 intcsrAfter (cycle side) st x = raised (st .intcsr) (runsOut (lane side st .count)) (countBit side)
 intcsrAfter chipReset st x = st .intcsr
 intcsrAfter unknown st x = st .intcsr

@@ -3,9 +3,9 @@
 use Prim.Native.Nat.{ℕ, _*_, _%_, _^_}
 use mathlib.Core.Bool.{Bool, cond, _&&_}
 use mathlib.Core.List.{List}
-use lib.Bits.{bitOr}
+use lib.Bits.{bitAnd, bitXor}
 use lib.ListN.{getD, set}
-use Rattle.machine.specs.Words.{bit, cleared, merged}
+use Rattle.machine.specs.Words.{merged}
 use Rattle.machine.specs.Offsets.{isMailbox, mailbox, writer, reader}
 use Rattle.machine.specs.Access.{Access, isReadBy, isWriteBy}
 use Rattle.machine.specs.Commands.{clearsMarks}
@@ -22,20 +22,16 @@ fills x = isWriteBy (writer (x .offset)) (x .kind) && isMailbox (x .offset)
 abbrev pub takes : Access → Bool
 takes x = isReadBy (reader (x .offset)) (x .kind) && isMailbox (x .offset)
 
--- the same, of byte k of the status: that byte enabled
-abbrev pub fillsByte : ℕ → Access → Bool
-fillsByte k x = fills x && bit (marksAt (x .offset) (x .enables)) k
+-- Ask 2, the marks that an access changes, as bits of offset 34: an owner's write those of its enabled bytes that were empty, the other
+-- side's read those that were full; any other, the owner's own read too, none
+unfoldable pub changes : Access → ℕ → ℕ
+changes x marks =
+    let at = marksAt (x .offset) (x .enables) in
+    cond (fills x) (bitAnd at (bitXor at marks)) (cond (takes x) (bitAnd at marks) 0)
 
-abbrev pub takesByte : ℕ → Access → Bool
-takesByte k x = takes x && bit (marksAt (x .offset) (x .enables)) k
-
--- MCSR 27 leaves no mark; an owner's write marks each enabled byte full, the other side's read marks it empty;
--- any other, the owner's own read too, changes no mark
+-- MCSR 27 leaves no mark; any other step turns those that it changes
 unfoldable pub marksAfter : Access → ℕ → ℕ
-marksAfter x marks =
-    cond (clearsMarks x) 0
-    (cond (fills x) (bitOr marks (marksAt (x .offset) (x .enables)))
-    (cond (takes x) (cleared marks (marksAt (x .offset) (x .enables))) marks))
+marksAfter x marks = cond (clearsMarks x) 0 (bitXor marks (changes x marks))
 
 -- an owner's write stores each enabled byte; a byte stays when it is read, so an empty one reads as last stored
 unfoldable pub mailAfter : Access → List ℕ → List ℕ

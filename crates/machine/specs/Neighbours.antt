@@ -5,7 +5,7 @@ use lib.ListN.{set, replicate}
 use Rattle.machine.specs.State.{State, Lane, resetState, resetLane}
 use Rattle.machine.specs.Window.{zeroWords}
 use Rattle.machine.specs.Run.{run}
-use Rattle.machine.specs.Examples.{Example, MeetsTable, stepBy, pciRead, pciWrite, addonRead, addonWrite, writeCycle, readCycle, says, ok, moves, refuses, absent, high, example}
+use Rattle.machine.specs.Examples.{Example, MeetsTable, stepBy, pciRead, pciWrite, addonRead, addonWrite, writeCycle, readCycle, says, ok, moves, refuses, absent, high, turning, example}
 use Rattle.machine.specs.declared.Step.{Step}
 use Rattle.machine.specs.declared.Answer.{Answer}
 
@@ -114,23 +114,25 @@ mailCases =
     example
     (pciWrite 0x04 0x11223344 ∷ pciRead 0x04 ∷ pciRead 0x34 ∷ stepBy 2 0x04 5 0 ∷ addonRead 0x34 ∷ addonRead 0x04 ∷ pciRead 0x34 ∷ stepBy 1 0x04 2 0xAABBCCDD
     ∷ pciRead 0x04 ∷ pciRead 0x34 ∷ [])
-    (ok ∷ says 0x11223344 ∷ says 0xF0 ∷ says 0x220044 ∷ says 0xA0 ∷ says 0x11223344 ∷ says 0 ∷ ok ∷ says 0x1122CC44 ∷ says 0x20 ∷ [])
+    (turning 0xF0 ok ∷ says 0x11223344 ∷ says 0xF0 ∷ turning 0x50 (says 0x220044) ∷ says 0xA0 ∷ turning 0xA0 (says 0x11223344) ∷ says 0 ∷ turning 0x20 ok ∷ says 0x1122CC44
+    ∷ says 0x20 ∷ [])
     -- the highest bytes of both halves; enables of 0 do nothing
     ∷ example
     (stepBy 1 0x0C 8 0x5A000000 ∷ stepBy 3 0x1C 8 0xC3000000 ∷ addonRead 0x34 ∷ stepBy 1 0x00 0 0xFF ∷ stepBy 2 0x0C 0 0 ∷ stepBy 0 0x34 8 0 ∷ addonRead 0x1C
     ∷ pciRead 0x34 ∷ [])
-    (ok ∷ ok ∷ says 0x80008000 ∷ ok ∷ ok ∷ says 0x80000000 ∷ says 0xC3000000 ∷ says 0x80008000 ∷ [])
+    (turning 0x8000 ok ∷ turning 0x80000000 ok ∷ says 0x80008000 ∷ ok ∷ ok ∷ says 0x80000000 ∷ says 0xC3000000 ∷ says 0x80008000 ∷ [])
     -- an incoming byte stays when it is read, and when MCSR 27 marks it empty
-    ∷ example (addonWrite 0x14 7 ∷ pciRead 0x14 ∷ pciRead 0x14 ∷ pciWrite 0x3C 0x08000000 ∷ pciRead 0x14 ∷ []) (ok ∷ says 7 ∷ says 7 ∷ ok ∷ says 7 ∷ [])
+    ∷ example (addonWrite 0x14 7 ∷ pciRead 0x14 ∷ pciRead 0x14 ∷ pciWrite 0x3C 0x08000000 ∷ pciRead 0x14 ∷ [])
+    (turning 0xF00000 ok ∷ turning 0xF00000 (says 7) ∷ says 7 ∷ ok ∷ says 7 ∷ [])
     -- writes of other registers store in no mailbox
     ∷ example
     (pciWrite 0x00 0x11223344 ∷ addonWrite 0x1C 5 ∷ pciWrite 0x20 0 ∷ pciWrite 0x24 0 ∷ pciWrite 0x28 0 ∷ pciWrite 0x2C 0 ∷ pciWrite 0x30 0 ∷ pciWrite 0x38 0
     ∷ pciRead 0x00 ∷ pciRead 0x1C ∷ [])
-    (ok ∷ ok ∷ ok ∷ ok ∷ ok ∷ ok ∷ ok ∷ ok ∷ says 0x11223344 ∷ says 5 ∷ [])
+    (turning 0xF ok ∷ turning 0xF0000000 ok ∷ ok ∷ ok ∷ ok ∷ ok ∷ ok ∷ ok ∷ says 0x11223344 ∷ turning 0xF0000000 (says 5) ∷ [])
     -- MCSR 27 marks every byte empty, where its byte is enabled; the bytes stay
     ∷ example
     (pciWrite 0x08 6 ∷ addonWrite 0x14 7 ∷ stepBy 1 0x3C 7 0x08000000 ∷ pciRead 0x34 ∷ stepBy 1 0x3C 8 0x08000000 ∷ pciRead 0x34 ∷ addonRead 0x08 ∷ pciRead 0x3C ∷ [])
-    (ok ∷ ok ∷ ok ∷ says 0x00F00F00 ∷ ok ∷ says 0 ∷ says 6 ∷ says 0xE6 ∷ [])
+    (turning 0xF00 ok ∷ turning 0xF00000 ok ∷ ok ∷ says 0x00F00F00 ∷ ok ∷ says 0 ∷ says 6 ∷ says 0xE6 ∷ [])
     ∷ []
 
 -- ---- FIFOs and cycles
@@ -193,7 +195,7 @@ cycleCases =
       start = 0;
       memory = 5 ∷ 6 ∷ [];
       steps = pciWrite 0x00 9 ∷ stepBy 6 0 0 0 ∷ pciRead 0x00 ∷ pciRead 0x34 ∷ pciRead 0x38 ∷ pciRead 0x3C ∷ pciRead 0x24 ∷ pciRead 0x2C ∷ [];
-      answers = high ok ∷ ok ∷ says 0 ∷ says 0 ∷ says 0 ∷ says 0xE6 ∷ says 0 ∷ says 0 ∷ [];
+      answers = turning 0xF (high ok) ∷ ok ∷ says 0 ∷ says 0 ∷ says 0 ∷ says 0xE6 ∷ says 0 ∷ says 0 ∷ [];
       places = 0 ∷ 1 ∷ [];
       words = 5 ∷ 6 ∷ [];
     }
@@ -207,11 +209,25 @@ eventCases =
     example
     (pciWrite 0x38 0x15 ∷ pciWrite 0x04 0 ∷ stepBy 2 0x04 13 0 ∷ addonRead 0x00 ∷ pciRead 0x04 ∷ stepBy 2 0x04 2 0 ∷ pciRead 0x38 ∷ stepBy 1 0x38 3 0x10005 ∷ pciRead 0x38
     ∷ stepBy 1 0x38 4 0x10000 ∷ pciRead 0x38 ∷ addonRead 0x04 ∷ pciRead 0x38 ∷ [])
-    (ok ∷ ok ∷ ok ∷ ok ∷ ok ∷ high ok ∷ high (says 0x810015) ∷ ok ∷ says 0x10005 ∷ ok ∷ says 0x5 ∷ ok ∷ says 0x5 ∷ [])
+    (ok ∷ turning 0xF0 ok ∷ turning 0xD0 ok ∷ ok ∷ ok ∷ turning 0x20 (high ok) ∷ high (says 0x810015) ∷ ok ∷ says 0x10005 ∷ ok ∷ says 0x5 ∷ ok ∷ says 0x5 ∷ [])
     -- incoming mailbox 4 byte 2 is chosen: an Add-On write of it is the event, a PCI read is none
     ∷ example
     (pciWrite 0x38 0x1E00 ∷ stepBy 3 0x1C 11 0 ∷ addonWrite 0x18 0 ∷ pciRead 0x1C ∷ stepBy 3 0x1C 4 0 ∷ pciRead 0x38 ∷ pciWrite 0x38 0x20000 ∷ addonWrite 0x1C 0 ∷ [])
-    (ok ∷ ok ∷ ok ∷ ok ∷ high ok ∷ high (says 0x821E00) ∷ ok ∷ ok ∷ [])
+    (ok ∷ turning 0xB0000000 ok ∷ turning 0xF000000 ok ∷ turning 0xB0000000 ok ∷ turning 0x40000000 (high ok) ∷ high (says 0x821E00) ∷ ok ∷ turning 0xB0000000 ok ∷ [])
+    -- one message, one event: a card that polls an emptied byte raises nothing, nor does one that writes a full byte again
+    ∷ example
+    (pciWrite 0x38 0x15 ∷ pciWrite 0x04 0 ∷ addonRead 0x04 ∷ stepBy 1 0x38 4 0x10000 ∷ addonRead 0x04 ∷ pciRead 0x38 ∷ [])
+    (ok ∷ turning 0xF0 ok ∷ turning 0xF0 (high ok) ∷ ok ∷ ok ∷ says 0x15 ∷ [])
+    ∷ example
+    (pciWrite 0x38 0x1E00 ∷ addonWrite 0x1C 0 ∷ stepBy 1 0x38 4 0x20000 ∷ addonWrite 0x1C 0 ∷ pciRead 0x38 ∷ [])
+    (ok ∷ turning 0xF0000000 (high ok) ∷ ok ∷ ok ∷ says 0x1E00 ∷ [])
+    -- a clear of chosen bytes that are full raises neither, and tells of no mark; a chosen byte without its enable raises nothing
+    ∷ example
+    (pciWrite 0x38 0x1E15 ∷ pciWrite 0x04 0 ∷ addonWrite 0x1C 0 ∷ stepBy 1 0x38 4 0x20000 ∷ pciWrite 0x3C 0x08000000 ∷ pciRead 0x38 ∷ pciRead 0x34 ∷ [])
+    (ok ∷ turning 0xF0 ok ∷ turning 0xF0000000 (high ok) ∷ ok ∷ ok ∷ says 0x1E15 ∷ says 0 ∷ [])
+    ∷ example
+    (pciWrite 0x38 0xE05 ∷ pciWrite 0x04 0 ∷ addonRead 0x04 ∷ addonWrite 0x1C 0 ∷ pciRead 0x38 ∷ [])
+    (ok ∷ turning 0xF0 ok ∷ turning 0xF0 ok ∷ turning 0xF0000000 ok ∷ says 0xE05 ∷ [])
     -- a flag without its own enable is no line: first each enable with the three flags that are not its own, then with its own; 21 needs none
     ∷ case (stateBy resetLane resetLane 0xE0F1F 0) 0 [] (pciRead 0x34 ∷ []) (says 0 ∷ [])
     ∷ case (stateBy resetLane resetLane 0xD1F0F 0) 0 [] (pciRead 0x34 ∷ []) (says 0 ∷ [])

@@ -9,7 +9,7 @@ use Rattle.machine.specs.Sides.{pci, addon, other, Party, sideOf}
 use Rattle.machine.specs.State.{State, lane, held, resetState}
 use Rattle.machine.specs.Access.{Access, accessOf, Kind, reading, writing, cycle, chipReset, unknown, isReset, cycles}
 use Rattle.machine.specs.Offsets.{isMailbox, mailbox, fifoPort, addressAt, countAt, statusAt, intcsrAt}
-use Rattle.machine.specs.Mailboxes.{marksAt, marksAfter, mailAfter}
+use Rattle.machine.specs.Mailboxes.{marksAt, changes, marksAfter, mailAfter}
 use Rattle.machine.specs.Fifos.{front}
 use Rattle.machine.specs.Window.{placeOf, isWindowOutOfForm}
 use Rattle.machine.specs.Mcsr.{mcsrAfter, fifoStatus, mcsrStatus, mcsrRead}
@@ -22,17 +22,18 @@ use Rattle.machine.specs.declared.Answer.{Answer}
 
 -- ---- what is answered
 
--- an answer's address, data and enables
+-- an answer's address, data, enables and changed marks
 pub record Reply : Type 0 where
   pub address : ℕ
   pub value : ℕ
   pub enables : ℕ
+  pub changed : ℕ
 
 abbrev pub nothing : Reply
-nothing = record { address = 0; value = 0; enables = 0 }
+nothing = record { address = 0; value = 0; enables = 0; changed = 0 }
 
-abbrev pub showing : ℕ → Reply
-showing value = record { address = 0; value = value; enables = 0 }
+abbrev pub showing : ℕ → ℕ → Reply
+showing value changed = record { address = 0; value = value; enables = 0; changed = changed }
 
 -- The registers but the FIFO port, which is read apart; those of the Add-On's table are the same ones. The last is MCSR: by code 4 no other offset comes here.
 unfoldable pub register : State → ℕ → ℕ
@@ -50,13 +51,14 @@ register st offset =
 unfoldable pub readValue : Party → State → Access → ℕ
 readValue party st x = cond (eqb (x .offset) fifoPort) (front (held (other (sideOf party)) st)) (shown (register st (x .offset)) (x .enables))
 
--- A done step: a read shows data; a cycle its address before the step, its word and the lowest n enables; writes and a reset nothing.
+-- A done step: a read shows data, a cycle its address before the step, its word and the lowest n enables; writes and a reset nothing.
+-- A read and a write tell which marks they changed (Ask 2).
 unfoldable pub doneReply : Kind → State → ℕ → List ℕ → Access → Reply
-doneReply (reading party) st start memory x = showing (readValue party st x)
-doneReply (writing party) st start memory x = nothing
+doneReply (reading party) st start memory x = showing (readValue party st x) (changes x (st .marks))
+doneReply (writing party) st start memory x = showing 0 (changes x (st .marks))
 doneReply (cycle side) st start memory x =
     let l = lane side st in
-    record { address = l .address; value = cycleWord side st start memory; enables = lowEnables (l .count) }
+    record { address = l .address; value = cycleWord side st start memory; enables = lowEnables (l .count); changed = 0 }
 doneReply chipReset st start memory x = nothing
 doneReply unknown st start memory x = nothing
 
@@ -64,7 +66,7 @@ doneReply unknown st start memory x = nothing
 unfoldable pub abortedReply : Kind → State → Reply
 abortedReply (reading party) st = nothing
 abortedReply (writing party) st = nothing
-abortedReply (cycle side) st = record { address = lane side st .address; value = 0; enables = 0 }
+abortedReply (cycle side) st = record { address = lane side st .address; value = 0; enables = 0; changed = 0 }
 abortedReply chipReset st = nothing
 abortedReply unknown st = nothing
 
@@ -82,6 +84,7 @@ answered after code r =
       value = r .value;
       enables = r .enables;
       line = not (eqb code stateOutOfForm) && lineOf (after .intcsr);
+      changed = r .changed;
     }
 
 -- the answer to a line of text that is no frame: no step is made
@@ -143,5 +146,5 @@ stepOf st start memory s = let x = accessOf s in respond st start memory x (code
 
 -- a proof that says `unfolding computing` computes a step of given numbers: this opens every rule
 unfoldable pub computing : ℕ
-unfolding bit flag byteMask mask cleared raised shown merged written only marksAt marksAfter mailAfter placeOf isWindowOutOfForm mcsrAfter fifoStatus mcsrStatus mcsrRead lowEnables isReady cycleWord stored addressAfter countAfter intcsrWritten outgoingEvent incomingEvent intcsrAfter intcsrAborted lineOf intcsrRead codeOf isOutOfForm isUnknownOffset hasBadEnables isPartFifoAccess isReadOnlyWrite isFullOrEmpty isTransferOff isCountZero isAbortStanding isNotReady isNoMemory register readValue doneReply abortedReply replyOf answered notAFrame doneState abortedState stateAfter memoryAfter respond stepOf
+unfolding bit flag byteMask mask cleared raised shown merged written only marksAt changes marksAfter mailAfter placeOf isWindowOutOfForm mcsrAfter fifoStatus mcsrStatus mcsrRead lowEnables isReady cycleWord stored addressAfter countAfter intcsrWritten outgoingEvent incomingEvent intcsrAfter intcsrAborted lineOf intcsrRead codeOf isOutOfForm isUnknownOffset hasBadEnables isPartFifoAccess isReadOnlyWrite isFullOrEmpty isTransferOff isCountZero isAbortStanding isNotReady isNoMemory register readValue doneReply abortedReply replyOf answered notAFrame doneState abortedState stateAfter memoryAfter respond stepOf
 computing = 0

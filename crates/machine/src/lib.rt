@@ -18,11 +18,13 @@ pub struct Step {
     pub value: u32,
 }
 
-// An answer, in four numbers and the level of the interrupt line once the step is over; `value` is its data.
+// An answer, in four numbers, the level of the interrupt line once the step is over, and the marks that the step changed, as bits of
+// offset 34, which the log does not show; `value` is its data.
 pub struct Answer {
     pub code: u32,
     pub address: u32,
     pub value: u32,
     pub enables: u32,
     pub line: bool,
+    pub changed: u32,
 }

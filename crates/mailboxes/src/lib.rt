@@ -4,14 +4,11 @@ ghost use mathlib.Core.Bool.{true};
 ghost use Rattle.machine.specs.Access.{accessOf, kindOf, isReadBy, isWriteBy};
 ghost use lib.ListN.{getD};
 ghost use Rattle.machine.specs.Offsets.{isMailbox, mailbox, writer, reader};
-ghost use Rattle.machine.specs.Mailboxes.{marksAt, fills, takes, fillsByte, takesByte, marksAfter, mailAfter};
+ghost use Rattle.machine.specs.Mailboxes.{marksAt, fills, takes, changes, marksAfter, mailAfter};
 use machine::Step;
 use machine::WORD_BYTES;
 use machine::kinds;
 use machine::offsets;
-
-// The outgoing bytes are the lower sixteen of the status, the incoming ones the upper.
-pub const HALF: u32 = 16;
 
 // Enables are numbers below this.
 const ENABLES: u32 = 16;
@@ -65,42 +62,28 @@ fn marks_at(offset: u32, enables: u32) -> u32
     (enables % ENABLES) << offset
 }
 
-// The owner's write to byte k, that byte enabled.
-pub fn fills_byte(k: u32, s: Step) -> bool
-    ensures { λ r. ⌜ r ≡ fillsByte k (accessOf s) ⌝ }
+// The marks that an access changes: an owner's write those of its enabled bytes that are empty, the other side's read those that are full.
+pub fn changes(s: Step, marks: u32) -> u32
+    ensures { λ r. ⌜ r ≡ changes (accessOf s) marks ⌝ }
 {
     if fills(s) {
-        word::bit(marks_at(s.offset, s.enables), k)
-    } else {
-        false
+        let at = marks_at(s.offset, s.enables);
+        return at & (at ^ marks);
     }
-}
-
-// The other side's read of byte k, that byte enabled.
-pub fn takes_byte(k: u32, s: Step) -> bool
-    ensures { λ r. ⌜ r ≡ takesByte k (accessOf s) ⌝ }
-{
     if takes(s) {
-        word::bit(marks_at(s.offset, s.enables), k)
-    } else {
-        false
+        return marks_at(s.offset, s.enables) & marks;
     }
+    0
 }
 
-// The marks after a done step.
+// The marks after a done step: none after a clear, else those are turned that it changes.
 pub fn marks_after(s: Step, marks: u32) -> u32
     ensures { λ r. ⌜ r ≡ marksAfter (accessOf s) marks ⌝ }
 {
     if commands::commands(commands::CLEAR_MARKS, s) {
         return 0;
     }
-    if fills(s) {
-        return marks | marks_at(s.offset, s.enables);
-    }
-    if takes(s) {
-        return word::cleared(marks, marks_at(s.offset, s.enables));
-    }
-    marks
+    marks ^ changes(s, marks)
 }
 
 // An owner's write stores the enabled bytes in its mailbox's word.

@@ -14,17 +14,18 @@ use Rattle.machine.specs.Sides.{pci, addon}
 use Rattle.machine.specs.State.{State}
 use Rattle.machine.specs.Access.{kindOf, accessOf}
 use Rattle.machine.specs.Offsets.{inTable, isReadOnly}
+use Rattle.machine.specs.Mailboxes.{changes}
 use Rattle.machine.specs.Fifos.{front}
 use Rattle.machine.specs.Window.{placeOf}
 use Rattle.machine.specs.Cycles.{lowEnables, isReady, cycleWord}
 use Rattle.machine.specs.Intcsr.{lineOf}
 use Rattle.machine.specs.Code.{codeOf, tests}
-use Rattle.machine.specs.Step.{register, readValue, Reply, showing, doneReply, replyOf, answered, respond, stepOf}
+use Rattle.machine.specs.Step.{register, readValue, Reply, nothing, showing, doneReply, abortedReply, replyOf, answered, respond, stepOf}
 use Rattle.promises.specs.Account.{byteOf}
 use Rattle.promises.specs.Readings.{isOneOf, pciOffsets, addonOffsets, pciReadOnly, addonReadOnly, OffsetTable, OffsetTables, RegisterTables, ReadyRule, PlaceRule, isLineHigh, LineRule, byteIf, addresses, values, lowestEnables, AnswerRule}
 use Rattle.machine.specs.declared.Step.{Step}
 use Rattle.laws.proofs.Tests.{and-left, and-right, none-applies}
-use Rattle.laws.proofs.KindNumbers.{named}
+use Rattle.laws.proofs.KindNumbers.{named, aborted-reply}
 use Rattle.laws.proofs.Bits.{bit-low, bit-beyond, by-bits}
 use Rattle.promises.proofs.Bytes.{listed, agree, bit-shown, shown-lt, byte-merged}
 use Rattle.promises.proofs.Readings.{low-enables}
@@ -190,16 +191,16 @@ shown-low x count = by-bits _ _ (λ k. at k (ltb k 32) refl)
 module _ (st : State) (start : ℕ) (memory : List ℕ) (s : Step) where
   -- what a done step of each kind answers
   by-number : (k : ℕ) → Reply
-  by-number k = record { address = getD (addresses st) k 0; value = getD (values st start memory s) k 0; enables = getD (lowestEnables st) k 0 }
+  by-number k = record { address = getD (addresses st) k 0; value = getD (values st start memory s) k 0; enables = getD (lowestEnables st) k 0; changed = cond (ltb k 4) (changes (accessOf s) (st .marks)) 0 }
 
   shown-is : shown (register st (s .offset)) (s .enables) ≡ byteIf (register st (s .offset)) (s .enables) 0 + byteIf (register st (s .offset)) (s .enables) 1 + byteIf (register st (s .offset)) (s .enables) 2 + byteIf (register st (s .offset)) (s .enables) 3
   shown-is = shown-bytes (register st (s .offset)) (s .enables)
 
   reply-is : (k : ℕ) → doneReply (kindOf k) st start memory (accessOf s) ≡ by-number k
   unfolding by-number doneReply readValue cycleWord lowEnables
-  reply-is zero = λ i. showing (cond (eqb (s .offset) 0x20) (front (st .fromAddon .words)) (shown-is i))
+  reply-is zero = λ i. showing (cond (eqb (s .offset) 0x20) (front (st .fromAddon .words)) (shown-is i)) (changes (accessOf s) (st .marks))
   reply-is (suc zero) = refl
-  reply-is (suc (suc zero)) = λ i. showing (cond (eqb (s .offset) 0x20) (front (st .fromPci .words)) (shown-is i))
+  reply-is (suc (suc zero)) = λ i. showing (cond (eqb (s .offset) 0x20) (front (st .fromPci .words)) (shown-is i)) (changes (accessOf s) (st .marks))
   reply-is (suc (suc (suc zero))) = refl
   reply-is (suc (suc (suc (suc zero)))) = refl
   reply-is (suc (suc (suc (suc (suc zero))))) =
@@ -208,9 +209,26 @@ module _ (st : State) (start : ℕ) (memory : List ℕ) (s : Step) where
         address = st .fromPci .address;
         value = shown-low (getD memory (placeOf start (st .fromPci .address)) 0) (st .fromPci .count) i;
         enables = 2 ^ min 4 (st .fromPci .count) - 1;
+        changed = 0;
       }
   reply-is (suc (suc (suc (suc (suc (suc zero)))))) = refl
-  reply-is (suc (suc (suc (suc (suc (suc (suc n))))))) = refl
+  reply-is (suc (suc (suc (suc (suc (suc (suc n))))))) = rw (le-ltb (suc (suc (suc (suc (suc (suc (suc n))))))) 4 (omega arith))
+
+-- the marks that a step changed, by its code and kind
+pub changed-is : (st : State) (start : ℕ) (memory : List ℕ) (s : Step)
+    → stepOf st start memory s .answer .changed ≡ cond (eqb (codeOf st start (length memory) (accessOf s)) 0 && ltb (s .kind) 4) (changes (accessOf s) (st .marks)) 0
+unfolding stepOf respond answered replyOf by-number
+changed-is st start memory s = by (eqb code 0) (eqb code 13)
+  where
+    code : ℕ
+    code = codeOf st start (length memory) (accessOf s)
+
+    by : (done absent : Bool)
+        → cond done (doneReply (accessOf s .kind) st start memory (accessOf s)) (cond absent (abortedReply (accessOf s .kind) st) nothing) .changed
+        ≡ cond (done && ltb (s .kind) 4) (changes (accessOf s) (st .marks)) 0
+    by true absent = λ i. reply-is st start memory s (s .kind) i .changed
+    by false true = λ i. aborted-reply st (s .kind) i .changed
+    by false false = refl
 
 pub answer-rule : AnswerRule
 unfolding stepOf respond answered replyOf codeOf by-number

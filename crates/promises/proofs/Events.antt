@@ -14,7 +14,9 @@ use Rattle.machine.specs.Intcsr.{intcsrKept, intcsrEvents, intcsrWritten, outgo
 use Rattle.machine.specs.Step.{stepOf, respond, answered, replyOf, stateAfter, doneState}
 use Rattle.laws.proofs.KindNumbers.{named}
 use Rattle.promises.specs.Readings.{EventRule, acknowledges, setsBit}
+use Rattle.machine.specs.Mailboxes.{changes}
 use Rattle.laws.proofs.Bits.{bit-raised}
+use Rattle.laws.proofs.Marks.{fillsByte, takesByte, change-at}
 use Rattle.promises.proofs.MailAccount.{at-byte}
 use Rattle.promises.proofs.Readings.{kept-bits, intcsr-written-bits}
 
@@ -35,26 +37,37 @@ module _ (k : ℕ) (low : 16 ≤ k) (high : k ≤ 21) where
   quiet : (b : Bool) → b ≡ (b && not false || (eqb k 16 && false || eqb k 17 && false || eqb k 18 && false || eqb k 19 && false))
   quiet b = sym (simp (and-true, and-false, or-false))
 
-  outgoing : (i o n : ℕ) (v : ℕ)
-      → outgoingEvent i (record { kind = reading card; offset = o; enables = n; value = v }) ≡ (bit i 4 && (eqb o (i / 2 ^ 2 % 4 * 4) && bit n (i % 4)))
+  outgoing : (i o n v marks : ℕ)
+      → outgoingEvent i (changes (record { kind = reading card; offset = o; enables = n; value = v }) marks)
+      ≡ (bit i 4 && (eqb o (i / 2 ^ 2 % 4 * 4) && bit n (i % 4) && bit marks (i % 16)))
   unfolding outgoingEvent
-  outgoing i o n v =
+  outgoing i o n v marks =
       let j = chosenOutgoing i in
       let c : j / 4 * 4 ≡ i / 2 ^ 2 % 4 * 4 = omega arith in
       let d : j % 4 ≡ i % 4 = omega arith in
+      let x : Access = record { kind = reading card; offset = o; enables = n; value = v } in
+      let taken : takesByte j x ≡ (eqb o (i / 2 ^ 2 % 4 * 4) && bit n (i % 4)) =
+      at-byte j (omega arith) (λ b. isReadBy (cond b card host) (reading card)) o n ∙ rw (lt-ltb j 16 (omega arith), c, d) in
       ap (λ (b : Bool). bit i 4 && b)
-      (at-byte j (omega arith) (λ b. isReadBy (cond b card host) (reading card)) o n ∙ rw (lt-ltb j 16 (omega arith), c, d))
+      (change-at j x marks ∙ ap (λ (b : Bool). b && bit marks j) taken)
 
-  incoming : (i o n : ℕ) (v : ℕ)
-      → incomingEvent i (record { kind = writing card; offset = o; enables = n; value = v })
-      ≡ (bit i 12 && (eqb o (0x10 + i / 2 ^ 10 % 4 * 4) && bit n (i / 2 ^ 8 % 4)))
+  if-and : (a b : Bool) → cond a b false ≡ (a && b)
+  if-and true b = refl
+  if-and false b = refl
+
+  incoming : (i o n v marks : ℕ)
+      → incomingEvent i (changes (record { kind = writing card; offset = o; enables = n; value = v }) marks)
+      ≡ (bit i 12 && (eqb o (0x10 + i / 2 ^ 10 % 4 * 4) && bit n (i / 2 ^ 8 % 4) && not (bit marks (16 + i / 2 ^ 8 % 16))))
   unfolding incomingEvent
-  incoming i o n v =
+  incoming i o n v marks =
       let j = chosenIncoming i in
       let c : j / 4 * 4 ≡ 0x10 + i / 2 ^ 10 % 4 * 4 = omega arith in
       let d : j % 4 ≡ i / 2 ^ 8 % 4 = omega arith in
+      let x : Access = record { kind = writing card; offset = o; enables = n; value = v } in
+      let filled : fillsByte j x ≡ (eqb o (0x10 + i / 2 ^ 10 % 4 * 4) && bit n (i / 2 ^ 8 % 4)) =
+      at-byte j (omega arith) (λ b. isWriteBy (cond b host card) (writing card)) o n ∙ rw (le-ltb j 16 (omega arith), c, d) in
       ap (λ (b : Bool). bit i 12 && b)
-      (at-byte j (omega arith) (λ b. isWriteBy (cond b host card) (writing card)) o n ∙ rw (le-ltb j 16 (omega arith), c, d))
+      (change-at j x marks ∙ if-and (fillsByte j x) (not (bit marks j)) ∙ ap (λ (b : Bool). b && not (bit marks j)) filled)
 
   runs-out : (count : ℕ) → runsOut count ≡ leb count 4
   runs-out count = by (leb count 4) refl
@@ -69,7 +82,7 @@ module _ (k : ℕ) (low : 16 ≤ k) (high : k ≤ 21) where
   by-kind (reading host) st o n v = quiet (bit (st .intcsr) k)
   by-kind (reading card) st o n v =
       bit-raised (st .intcsr) _ 16 k
-      ∙ rw (outgoing (st .intcsr) o n v) (simp (and-false, or-false) (swap-event (bit (st .intcsr) k) _ (eqb k 16)))
+      ∙ rw (outgoing (st .intcsr) o n v (st .marks)) (simp (and-false, or-false) (swap-event (bit (st .intcsr) k) _ (eqb k 16)))
   by-kind (writing host) st o n v = at (eqb o 0x38) refl
     where
       at : (b : Bool) → eqb o 0x38 ≡ b
@@ -81,7 +94,7 @@ module _ (k : ℕ) (low : 16 ≤ k) (high : k ≤ 21) where
       at false e = quiet (bit (st .intcsr) k)
   by-kind (writing card) st o n v =
       bit-raised (st .intcsr) _ 17 k
-      ∙ rw (incoming (st .intcsr) o n v) (simp (and-false, or-false) (swap-event (bit (st .intcsr) k) _ (eqb k 17)))
+      ∙ rw (incoming (st .intcsr) o n v (st .marks)) (simp (and-false, or-false) (swap-event (bit (st .intcsr) k) _ (eqb k 17)))
   by-kind (cycle addon) st o n v =
       bit-raised (st .intcsr) _ 18 k ∙ rw (runs-out (st .fromAddon .count)) (simp (and-false, or-false) (swap-event (bit (st .intcsr) k) _ (eqb k 18)))
   by-kind (cycle pci) st o n v =

@@ -5,17 +5,17 @@ use mathlib.Core.Bool.{Bool, true, false, cond, _&&_}
 use mathlib.Core.List.{List, [], _∷_, _++_}
 use native.Mathlib.Nat.{mod-lt, mod-le, pow-le-pow-right}
 use native.Mathlib.Omega.{arith}
-use lib.Dec.{eqb}
-use lib.Bits.{bitAnd, bitOr, or-lt, and-le-l, and-le-r}
+use lib.Dec.{eqb, ltb}
+use lib.Bits.{bitAnd, bitXor, or-lt, xor-lt, and-le-l, and-le-r}
 use lib.ListN.{length, getD, set, drop}
 use borrow.Author.Tests.{eqb-true}
 use Rattle.machine.specs.Words.{ones, mask, raised, cleared, shown, merged, written}
 use Rattle.machine.specs.Sides.{Side, pci, addon, host, card}
 use Rattle.machine.specs.State.{Lane, State, resetState}
-use Rattle.machine.specs.Access.{Access, accessOf, Kind, reading, writing, cycle, chipReset, unknown, isReset, cycles, writes, isWriteBy}
-use Rattle.machine.specs.Offsets.{isMailbox, writer, fifoPort, addressAt, countAt, intcsrAt, mcsrAt}
+use Rattle.machine.specs.Access.{Access, accessOf, Kind, reading, writing, cycle, chipReset, unknown, isReset, cycles, writes, isReadBy, isWriteBy}
+use Rattle.machine.specs.Offsets.{isMailbox, writer, reader, fifoPort, addressAt, countAt, intcsrAt, mcsrAt}
 use Rattle.machine.specs.Commands.{clearsMarks, clearsFifo}
-use Rattle.machine.specs.Mailboxes.{marksAt, fills, takes, marksAfter, mailAfter}
+use Rattle.machine.specs.Mailboxes.{marksAt, fills, takes, changes, marksAfter, mailAfter}
 use Rattle.machine.specs.Fifos.{front, cycleFeeds, letIn, handedOut, followed, fifoAfter}
 use Rattle.machine.specs.Window.{placeOf}
 use Rattle.machine.specs.Mcsr.{mcsrKept, mcsrAfter}
@@ -31,7 +31,7 @@ use Rattle.laws.proofs.Tests.{and-right}
 use Rattle.promises.proofs.Bytes.{shown-lt}
 use Rattle.laws.proofs.Marks.{marks-lt}
 use Rattle.promises.proofs.Refused.{numbered, refused, aborted}
-use Rattle.promises.proofs.Answers.{shown-bytes, answer-rule}
+use Rattle.promises.proofs.Answers.{shown-bytes, changed-is, answer-rule}
 
 -- ---- lists
 
@@ -95,14 +95,22 @@ mail-fits : (x : Access) (mail : List ℕ) → WordsFit mail → WordsFit (mailA
 unfolding mailAfter
 mail-fits x mail h = cond-below (2 ^ 32) (fills x) _ mail (set-below (2 ^ 32) mail _ _ (merged-lt _ (x .value) (x .enables)) h) h
 
+changes-fit : (x : Access) (marks : ℕ) → changes x marks < 2 ^ 32
+unfolding changes
+changes-fit x marks = by (fills x) refl (takes x) refl
+  where
+    part : (m : ℕ) → isMailbox (x .offset) ≡ true → bitAnd (marksAt (x .offset) (x .enables)) m < 2 ^ 32
+    part m b = omega (arith, and-le-l (marksAt (x .offset) (x .enables)) m, marks-lt (x .offset) (x .enables) b)
+
+    by : (f : Bool) → fills x ≡ f → (t : Bool) → takes x ≡ t
+        → cond f (bitAnd (marksAt (x .offset) (x .enables)) (bitXor (marksAt (x .offset) (x .enables)) marks)) (cond t (bitAnd (marksAt (x .offset) (x .enables)) marks) 0) < 2 ^ 32
+    by true e t g = part _ (and-right (isWriteBy (writer (x .offset)) (x .kind)) (isMailbox (x .offset)) e)
+    by false e true g = part _ (and-right (isReadBy (reader (x .offset)) (x .kind)) (isMailbox (x .offset)) g)
+    by false e false g = omega arith
+
 marks-fit : (x : Access) (marks : ℕ) → marks < 2 ^ 32 → marksAfter x marks < 2 ^ 32
 unfolding marksAfter
-marks-fit x marks h = below-cond (clearsMarks x) (omega arith) (by (fills x) refl)
-  where
-    by : (b : Bool) → fills x ≡ b
-        → cond b (bitOr marks (marksAt (x .offset) (x .enables))) (cond (takes x) (cleared marks (marksAt (x .offset) (x .enables))) marks) < 2 ^ 32
-    by true e = or-lt 32 marks _ h (marks-lt (x .offset) (x .enables) (and-right (isWriteBy (writer (x .offset)) (x .kind)) (isMailbox (x .offset)) e))
-    by false e = below-cond (takes x) (cleared-lt marks _) h
+marks-fit x marks h = below-cond (clearsMarks x) (omega arith) (xor-lt 32 marks _ h (changes-fit x marks))
 
 fifo-fits : (side : Side) (x : Access) (word : ℕ) (ws : List ℕ) → word < 2 ^ 32 → x .value < 2 ^ 32 → WordsFit ws → WordsFit (fifoAfter side x word ws)
 fifo-fits side x word ws p q h =
@@ -230,6 +238,9 @@ module _ (st : State) (start : ℕ) (memory : List ℕ) (s : Step) (h : StateFit
     ),
   )
 
+  changed-lt : o .answer .changed < 2 ^ 32
+  changed-lt = rw (changed-is st start memory s) (below-cond (eqb (codeOf st start (length memory) (accessOf s)) 0 && ltb (s .kind) 4) (changes-fit (accessOf s) (st .marks)) z)
+
   by-code : (done absent : Bool) → eqb (o .answer .code) 0 ≡ done → eqb (o .answer .code) 13 ≡ absent → AnswerFits (o .answer)
   by-code true absent p q =
       let r = answer-rule st start memory s (eqb-true (o .answer .code) 0 p) in
@@ -238,14 +249,15 @@ module _ (st : State) (start : ℕ) (memory : List ℕ) (s : Step) (h : StateFit
         address = rw (r .address) (at-lt (2 ^ 32) (addresses st) (s .kind) z (z, (z, (z, (z, (h .fromAddon .address, (h .fromPci .address, (z, tt))))))));
         value = rw (r .value) (at-lt (2 ^ 32) (values st start memory s) (s .kind) z values-fit);
         enables = rw (r .enables) (at-lt 16 (lowestEnables st) (s .kind) (omega arith) (omega arith, (omega arith, (omega arith, (omega arith, (low-lt (st .fromAddon .count), (low-lt (st .fromPci .count), (omega arith, tt))))))));
+        changed = changed-lt;
       }
   by-code false true p q =
       let a = aborted st start memory s (eqb-true (o .answer .code) 13 q) .1 .1 in
       let where-to : cycleAddress st s < 2 ^ 32 = below-cond (eqb (s .kind) 4) (h .fromAddon .address) (below-cond (eqb (s .kind) 5) (h .fromPci .address) z) in
-      rw a (record { code = omega arith; address = where-to; value = z; enables = omega arith })
+      rw a (record { code = omega arith; address = where-to; value = z; enables = omega arith; changed = z })
   by-code false false p q =
       let c : o .answer .code ≤ 14 = omega (arith, numbered st start memory s) in
-      rw (ap (λ (t : Outcome). t .answer) (refused st start memory s p q)) (record { code = c; address = z; value = z; enables = omega arith })
+      rw (ap (λ (t : Outcome). t .answer) (refused st start memory s p q)) (record { code = c; address = z; value = z; enables = omega arith; changed = z })
 
 answer-fits : (st : State) (start : ℕ) (memory : List ℕ) (s : Step) → StateFits st → WordsFit memory → AnswerFits (stepOf st start memory s .answer)
 answer-fits st start memory s h m =
@@ -273,4 +285,4 @@ run-fits st start memory (s ∷ ss) h m v =
 pub given-fits : GivenFits
 unfolding notAFrame answered
 given-fits _ (toStep st start memory s h m v) = answer-fits st start memory s h m
-given-fits _ (toNoFrame st) = record { code = omega arith; address = omega arith; value = omega arith; enables = omega arith }
+given-fits _ (toNoFrame st) = record { code = omega arith; address = omega arith; value = omega arith; enables = omega arith; changed = omega arith }

@@ -14,5 +14,6 @@ pub mod Registers
 pub mod Aborts
 pub mod Steps
 pub mod Answers
+pub mod Messages
 pub mod Fits
 pub mod Unique

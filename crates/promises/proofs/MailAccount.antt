@@ -13,7 +13,7 @@ use Rattle.machine.specs.State.{State, resetState}
 use Rattle.machine.specs.Access.{Access, accessOf, isReadBy, isWriteBy, isReset}
 use Rattle.machine.specs.Offsets.{isMailbox}
 use Rattle.machine.specs.Commands.{clearsMarks}
-use Rattle.machine.specs.Mailboxes.{marksAt, fillsByte, takesByte}
+use Rattle.machine.specs.Mailboxes.{marksAt}
 use Rattle.machine.specs.Code.{codeOf}
 use Rattle.machine.specs.Step.{replyOf, stateAfter, stepOf, respond, answered, doneState, abortedState}
 use Rattle.machine.specs.Event.{Event}
@@ -25,7 +25,7 @@ use Rattle.laws.proofs.KindNumbers.{named}
 use Rattle.promises.proofs.Numbers.{reset-is, commands-is}
 use Rattle.promises.proofs.After.{part-refused, part-done}
 use Rattle.laws.proofs.Bits.{bit-zero}
-use Rattle.laws.proofs.Marks.{bit-marks, mark-after}
+use Rattle.laws.proofs.Marks.{fillsByte, takesByte, bit-marks, mark-after}
 
 -- ---- the machine's tests on a byte are the account's
 
@@ -84,7 +84,7 @@ module _ (k : ℕ) (h : k < 32) (e : Event) where
 -- ---- one step
 
 -- what a byte's mark is after a touch
-abbrev touched : ByteEvent → Bool → Bool
+abbrev pub touched : ByteEvent → Bool → Bool
 touched write b = true
 touched read b = false
 touched clear b = false
@@ -123,21 +123,25 @@ mark-step k h st x zero word =
     ∙ touched-cond (isReset (x .kind) || clearsMarks x) (fillsByte k x) (takesByte k x) (bit (st .marks) k)
 mark-step k h st x (suc c) word = rw (part-refused (λ (s : State). bit (s .marks) k) st x c word refl, eqb·suc-zero c)
 
+pub mark-event : (k : ℕ) → k < 32 → (st : State) (start : ℕ) (memory : List ℕ) (s : Step)
+    → (let o = stepOf st start memory s in let e : Event = record { step = s; answer = o .answer } in bit (o .state .marks) k ≡ touched (touch k e) (bit (st .marks) k))
+unfolding stepOf respond answered
+mark-event k h st start memory s =
+    let x = accessOf s in
+    let code = codeOf st start (length memory) x in
+    mark-step k h st x code (replyOf st start memory x code .value)
+    ∙ (λ i. touched (touch-is k h (record { step = s; answer = stepOf st start memory s .answer }) i) (bit (st .marks) k))
+
 -- ---- a run
 
 account-from : (k : ℕ) → k < 32 → (start : ℕ) (steps : List Step) (st : State) (memory : List ℕ)
     → (let r = run st start memory steps in bit (r .state .marks) k ≡ touched (latest k (r .events)) (bit (st .marks) k))
-unfolding stepOf respond answered
 account-from k h start [] st memory = refl
 account-from k h start (s ∷ ss) st memory =
     let o = stepOf st start memory s in
-    let x = accessOf s in
-    let code = codeOf st start (length memory) x in
     let e : Event = record { step = s; answer = o .answer } in
     let rest = latest k (run (o .state) start (o .memory) ss .events) in
-    account-from k h start ss (o .state) (o .memory)
-    ∙ ap (touched rest) (mark-step k h st x code (replyOf st start memory x code .value) ∙ (λ i. touched (touch-is k h e i) (bit (st .marks) k)))
-    ∙ sym (touched-later rest (touch k e) (bit (st .marks) k))
+    account-from k h start ss (o .state) (o .memory) ∙ ap (touched rest) (mark-event k h st start memory s) ∙ sym (touched-later rest (touch k e) (bit (st .marks) k))
 
 pub mail-account : MailAccount
 mail-account k h start memory steps =

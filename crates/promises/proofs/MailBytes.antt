@@ -13,7 +13,7 @@ use Rattle.machine.specs.Words.{bit, merged}
 use Rattle.machine.specs.State.{State, resetState}
 use Rattle.machine.specs.Access.{Access, accessOf, isWriteBy, isReset}
 use Rattle.machine.specs.Offsets.{isMailbox, writer}
-use Rattle.machine.specs.Mailboxes.{marksAt, fills, fillsByte, mailAfter}
+use Rattle.machine.specs.Mailboxes.{marksAt, fills, mailAfter}
 use Rattle.machine.specs.Code.{codeOf}
 use Rattle.machine.specs.Step.{replyOf, stateAfter, stepOf, respond, answered, doneState, abortedState}
 use Rattle.machine.specs.Event.{Event}
@@ -24,7 +24,7 @@ use Rattle.machine.specs.declared.Step.{Step}
 use Rattle.laws.proofs.Tests.{and-right}
 use Rattle.promises.proofs.Numbers.{reset-is}
 use Rattle.promises.proofs.After.{part-refused, part-done}
-use Rattle.laws.proofs.Marks.{bit-marks}
+use Rattle.laws.proofs.Marks.{fillsByte, bit-marks}
 use Rattle.promises.proofs.Bytes.{byte-merged}
 use Rattle.promises.proofs.MailAccount.{fills-is}
 

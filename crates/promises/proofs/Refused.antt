@@ -122,5 +122,5 @@ unfolding stepOf respond stateAfter memoryAfter answered replyOf
 aborted st start memory s e =
     let after : stepOf st start memory s .state ≡ abortedState st = rw e in (
       rw after (abort-only st),
-      (rw e, rw e (λ i. record { code = 13; address = aborted-reply st (s .kind) i .address; value = aborted-reply st (s .kind) i .value; enables = aborted-reply st (s .kind) i .enables; line = aborted-line st i })),
+      (rw e, rw e (λ i. record { code = 13; address = aborted-reply st (s .kind) i .address; value = aborted-reply st (s .kind) i .value; enables = aborted-reply st (s .kind) i .enables; line = aborted-line st i; changed = aborted-reply st (s .kind) i .changed })),
     )

@@ -11,7 +11,7 @@ use Rattle.machine.specs.Words.{bit}
 use Rattle.machine.specs.Sides.{Side, pci, addon}
 use Rattle.machine.specs.State.{State, resetState}
 use Rattle.machine.specs.Step.{stepOf}
-use Rattle.machine.specs.Event.{Event, answers}
+use Rattle.machine.specs.Event.{Event, logged, loggedAnswers}
 use Rattle.machine.specs.Run.{run}
 use Rattle.promises.specs.Account.{isDone, isKind, command, clears, wordsIn, wordsOut, Tally, fresh, tallyAfter, talliedFrom, AlikeButPortData, AllAlike, noSteps, oneMore, NoClear, accepted, SameAccepted}
 use Rattle.promises.specs.Theorems.{TwoRunsSince, TwoRuns}
@@ -22,14 +22,14 @@ use Rattle.promises.proofs.FifoAccount.{fifo-account}
 
 record Twin (e f : Event) : Type 0 where
   steps : AlikeButPortData (e .step) (f .step)
-  same : e .answer ≡ f .answer
+  same : logged (e .answer) ≡ logged (f .answer)
 
 data Twins : List Event → List Event → Type 0 where
   nil : Twins [] []
   cons : {e f : Event} {es fs : List Event} → Twin e f → Twins es fs → Twins (e ∷ es) (f ∷ fs)
 
 twins : {ss ts : List Step} (st st′ : State) (start : ℕ) (m m′ : List ℕ) → AllAlike ss ts
-    → answers (run st start m ss .events) ≡ answers (run st′ start m′ ts .events) → Twins (run st start m ss .events) (run st′ start m′ ts .events)
+    → loggedAnswers (run st start m ss .events) ≡ loggedAnswers (run st′ start m′ ts .events) → Twins (run st start m ss .events) (run st′ start m′ ts .events)
 twins st st′ start m m′ noSteps e = nil
 twins st st′ start m m′ (oneMore {s = s} {t = t} a al) e =
     let o = stepOf st start m s in

@@ -32,12 +32,13 @@ pub record StateFits (st : State) : Type 0 where
   pub intcsr : st .intcsr < 2 ^ 32
   pub mcsr : st .mcsr < 2 ^ 32
 
--- Frames and the log: two digits hold the code of an answer, eight its address, eight its data, one its enables
+-- Frames and the log: two digits hold the code of an answer, eight its address, eight its data, one its enables; its changed marks are bits of a register
 pub record AnswerFits (a : Answer) : Type 0 where
   pub code : a .code ≤ 14
   pub address : a .address < 2 ^ 32
   pub value : a .value < 2 ^ 32
   pub enables : a .enables < 16
+  pub changed : a .changed < 2 ^ 32
 
 -- `reset-fits`
 abbrev pub ResetFits : Type 0

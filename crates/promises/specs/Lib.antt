@@ -2,5 +2,6 @@ pub mod Account
 pub mod Theorems
 pub mod Worthless
 pub mod Readings
+pub mod Messages
 pub mod Fits
 pub mod Unique

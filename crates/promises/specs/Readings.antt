@@ -4,6 +4,7 @@ use mathlib.Core.Path.{_≡_}
 use mathlib.Core.Bool.{Bool, true, false, cond, not, _&&_, _||_}
 use mathlib.Core.List.{List, [], _∷_, map}
 use lib.Dec.{eqb, leb, ltb}
+use lib.Bits.{bitXor}
 use lib.ListN.{length, getD, set}
 use Rattle.machine.specs.Words.{bit, shown, merged, written}
 use Rattle.machine.specs.Sides.{pci, addon}
@@ -186,7 +187,7 @@ ResetRule =
     (st : State) (start : ℕ) (memory : List ℕ) (s : Step)
     → (let o = stepOf st start memory s in
     o .answer .code ≡ 0 → eqb (s .kind) 6 ≡ true
-    → o ≡ record { state = resetState; memory = memory; answer = record { code = 0; address = 0; value = 0; enables = 0; line = false } })
+    → o ≡ record { state = resetState; memory = memory; answer = record { code = 0; address = 0; value = 0; enables = 0; line = false; changed = 0 } })
 
 -- a register that keeps some bits and is written by PCI at an offset: what such a write leaves, or else `rest`
 abbrev pub unlessWritten : ℕ → ℕ → Step → ℕ → ℕ → ℕ
@@ -218,14 +219,14 @@ RegisterRule =
 abbrev pub acknowledges : ℕ → Access → Bool
 acknowledges k x = isWrite pci (x .kind) && eqb (x .offset) 0x38 && bit (x .enables) (k / 8) && bit (x .value) k
 
--- What sets bit k of INTCSR. 16: the Add-On reads, of the outgoing mailbox that bits 3:2 choose, the byte that 1:0 choose, while bit 4 is set.
--- 17: the Add-On writes, of the incoming mailbox that bits 11:10 choose, the byte that 9:8 choose, while bit 12 is set.
+-- What sets bit k of INTCSR. 16: the Add-On reads, of the outgoing mailbox that bits 3:2 choose, the byte that 1:0 choose, which is full, while bit 4 is set.
+-- 17: the Add-On writes, of the incoming mailbox that bits 11:10 choose, the byte that 9:8 choose, which is empty, while bit 12 is set.
 -- 18 and 19: a write or a read cycle whose count is at most 4.
 abbrev pub setsBit : ℕ → State → Access → Bool
 setsBit k st x =
     let i = st .intcsr in
-    eqb k 16 && (isRead addon (x .kind) && (bit i 4 && (eqb (x .offset) (i / 2 ^ 2 % 4 * 4) && bit (x .enables) (i % 4))))
-    || eqb k 17 && (isWrite addon (x .kind) && (bit i 12 && (eqb (x .offset) (0x10 + i / 2 ^ 10 % 4 * 4) && bit (x .enables) (i / 2 ^ 8 % 4))))
+    eqb k 16 && (isRead addon (x .kind) && (bit i 4 && (eqb (x .offset) (i / 2 ^ 2 % 4 * 4) && bit (x .enables) (i % 4) && bit (st .marks) (i % 16))))
+    || eqb k 17 && (isWrite addon (x .kind) && (bit i 12 && (eqb (x .offset) (0x10 + i / 2 ^ 10 % 4 * 4) && bit (x .enables) (i / 2 ^ 8 % 4) && not (bit (st .marks) (16 + i / 2 ^ 8 % 16)))))
     || eqb k 18 && (cycles addon (x .kind) && leb (st .fromAddon .count) 4)
     || eqb k 19 && (cycles pci (x .kind) && leb (st .fromPci .count) 4)
 
@@ -237,6 +238,13 @@ EventRule =
     o .answer .code ≡ 0 → eqb (s .kind) 6 ≡ false → bit (o .state .intcsr) k ≡ (bit (st .intcsr) k && not (acknowledges k x) || setsBit k st x))
 
 -- ---- of an answer
+
+-- `changed-rule`: Ask 2, a done read or write below offset 20 answers the marks that differ before and after it; every other answer has none
+abbrev pub ChangedRule : Type 0
+ChangedRule =
+    (st : State) (start : ℕ) (memory : List ℕ) (s : Step)
+    → (let o = stepOf st start memory s in
+    o .answer .changed ≡ cond (eqb (o .answer .code) 0 && (ltb (s .kind) 4 && ltb (s .offset) 0x20)) (bitXor (st .marks) (o .state .marks)) 0)
 
 -- INTCSR and MCSR: the interrupt line by the bits of INTCSR, four flags each with its enable, and two that need none
 abbrev pub isLineHigh : ℕ → Bool

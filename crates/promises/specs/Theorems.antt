@@ -12,7 +12,7 @@ use Rattle.machine.specs.Access.{Access, accessOf}
 use Rattle.machine.specs.Intcsr.{lineOf}
 use Rattle.machine.specs.Code.{tests, testOf, isOutOfForm}
 use Rattle.machine.specs.Step.{stepOf, notAFrame}
-use Rattle.machine.specs.Event.{Event, answers}
+use Rattle.machine.specs.Event.{Event, loggedAnswers}
 use Rattle.machine.specs.Run.{Rule, runOf, run}
 use Rattle.promises.specs.Account.{tally, latest, wasWrite, byteOf, lastStored, AllAlike, Every, NoClear, SameAccepted}
 use Rattle.machine.specs.declared.Step.{Step}
@@ -26,7 +26,7 @@ Numbered = (st : State) (start : ℕ) (memory : List ℕ) (s : Step) → stepOf 
 
 -- an answer that only refuses: nothing but the code, and the line of the state (low for code 1)
 abbrev pub refusal : ℕ → State → Answer
-refusal code st = record { code = code; address = 0; value = 0; enables = 0; line = cond (eqb code 1) false (lineOf (st .intcsr)) }
+refusal code st = record { code = code; address = 0; value = 0; enables = 0; line = cond (eqb code 1) false (lineOf (st .intcsr)); changed = 0 }
 
 -- `refused`: with a code other than 0 and 13 neither the controller nor the memory changes, and nothing but the code and the line is answered
 abbrev pub Refused : Type 0
@@ -59,7 +59,7 @@ Aborted =
     → (let o = stepOf st start memory s in
     o .answer .code ≡ 13
     → AbortOnly st (o .state)
-    × ((o .memory ≡ memory) × (o .answer ≡ record { code = 13; address = cycleAddress st s; value = 0; enables = 0; line = true })))
+    × ((o .memory ≡ memory) × (o .answer ≡ record { code = 13; address = cycleAddress st s; value = 0; enables = 0; line = true; changed = 0 })))
 
 -- `only-aborts`: a step sets INTCSR bit 20, which was clear, exactly if it answers 13
 abbrev pub OnlyAborts : Type 0
@@ -121,18 +121,18 @@ MailBytes =
     (k : ℕ) → k < 32 → (start : ℕ) (memory : List ℕ) (steps : List Step)
     → (let r = run resetState start memory steps in byteOf (k % 4) (getD (r .state .mail) (k / 4) 0) ≡ lastStored k (r .events))
 
--- `two-runs-since`: two runs that differ at most in the data of FIFO port writes, with the same answers and the same words left in a FIFO,
+-- `two-runs-since`: two runs that differ at most in the data of FIFO port writes, with the same answers, as the log shows them, and the same words left in a FIFO,
 -- let the same words into it since its last clear or reset
 abbrev pub TwoRunsSince : Type 0
 TwoRunsSince =
     (side : Side) (start : ℕ) (memory : List ℕ) (ss ts : List Step) → AllAlike ss ts
     → (let r = run resetState start memory ss in let q = run resetState start memory ts in
-    answers (r .events) ≡ answers (q .events) → held side (r .state) ≡ held side (q .state) → tally side (r .events) .letIn ≡ tally side (q .events) .letIn)
+    loggedAnswers (r .events) ≡ loggedAnswers (q .events) → held side (r .state) ≡ held side (q .state) → tally side (r .events) .letIn ≡ tally side (q .events) .letIn)
 
 -- `two-runs`: with no clear and no reset done, and the words left in both FIFOs the same, every accepted word agreed, event by event
 abbrev pub TwoRuns : Type 0
 TwoRuns =
     (start : ℕ) (memory : List ℕ) (ss ts : List Step) → AllAlike ss ts
     → (let r = run resetState start memory ss in let q = run resetState start memory ts in
-    answers (r .events) ≡ answers (q .events) → ((side : Side) → held side (r .state) ≡ held side (q .state))
+    loggedAnswers (r .events) ≡ loggedAnswers (q .events) → ((side : Side) → held side (r .state) ≡ held side (q .state))
     → ((side : Side) → NoClear side (r .events)) → (side : Side) → SameAccepted side (r .events) (q .events))

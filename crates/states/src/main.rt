@@ -1,6 +1,6 @@
 // States, windows and numbers that frames cannot reach. Each line of standard input is a case in 40 numbers of 8 hexadecimal
 // digits: the state, the window and the step; see `tests/second/cases`. For each it writes the log line of the step, and a
-// line of numbers: the state left, and the first word of memory that the step changed, if any.
+// line of numbers: the state left, the first word of memory that the step changed, if any, and the marks that it changed.
 use controller::ByteCount;
 use controller::Controller;
 use controller::Lane;
@@ -191,6 +191,7 @@ fn run_case(line: &[u8], window: &mut [u32]) {
     write_answer(a);
     write_state(c);
     write_memory(window, base);
+    write_number(a.changed);
     io::write_all(STDOUT_FILENO, b"\n");
 }
 

@@ -4,6 +4,7 @@ use mathlib.Core.Path.{_≡_, refl}
 use mathlib.Core.Bool.{Bool, true, false, cond, not, _&&_}
 use mathlib.Core.List.{List, [], _∷_, _++_}
 use native.Mathlib.Omega.{arith}
+use lib.Bits.{xor-zero-r}
 use lib.ListN.{length, drop, set, replicate}
 use borrow.Author.Tests.{ltb-true, leb-true, not-false}
 use Rattle.machine.specs.Words.{bit, raised}
@@ -12,7 +13,7 @@ use Rattle.machine.specs.State.{State, lane, held}
 use Rattle.machine.specs.Access.{Access, cycle, cycles}
 use Rattle.machine.specs.Window.{placeOf, inside}
 use Rattle.machine.specs.Fifos.{amount}
-use Rattle.machine.specs.Mailboxes.{marksAfter, mailAfter}
+use Rattle.machine.specs.Mailboxes.{changes, marksAfter, mailAfter}
 use Rattle.machine.specs.Mcsr.{mcsrAfter}
 use Rattle.machine.specs.Intcsr.{intcsrAfter}
 use Rattle.machine.specs.Cycles.{needed, isReady, stored, nextAddress, countLeft, runsOut, addressAfter, countAfter}
@@ -74,8 +75,8 @@ module _ (st : State) (offset enables value word : ℕ) where
         intcsr = raised (st .intcsr) (runsOut (st .fromAddon .count)) 18;
         mcsr = st .mcsr;
       } ≡ doneState st (cycleBy addon offset enables value) word
-  unfolding doneState mailAfter marksAfter addressAfter countAfter intcsrAfter mcsrAfter
-  write-cycle-state = refl
+  unfolding doneState mailAfter changes marksAfter addressAfter countAfter intcsrAfter mcsrAfter
+  write-cycle-state = rw xor-zero-r
 
   pub read-cycle-state :
       record {
@@ -86,8 +87,8 @@ module _ (st : State) (offset enables value word : ℕ) where
         intcsr = raised (st .intcsr) (runsOut (st .fromPci .count)) 19;
         mcsr = st .mcsr;
       } ≡ doneState st (cycleBy pci offset enables value) word
-  unfolding doneState mailAfter marksAfter addressAfter countAfter intcsrAfter mcsrAfter
-  read-cycle-state = refl
+  unfolding doneState mailAfter changes marksAfter addressAfter countAfter intcsrAfter mcsrAfter
+  read-cycle-state = rw xor-zero-r
 
 -- ---- what it brings about
 
@@ -98,8 +99,8 @@ module _ (st : State) (start : ℕ) (memory : List ℕ) (x : Access) (code : ℕ
   unfolding respond replyOf stateAfter memoryAfter
   done-write-cycle after reply answer memory′ zero k r a m w = rw zero (simp (← r, ← a, m, w) (rw k))
 
-  pub abort-step : (address : ℕ) → code ≡ 13 → record { address = address; value = 0; enables = 0 } ≡ abortedReply (x .kind) st
-      → record { state = abortedState st; memory = memory; answer = answered (abortedState st) 13 (record { address = address; value = 0; enables = 0 }) } ≡ respond st start memory x code
+  pub abort-step : (address : ℕ) → code ≡ 13 → record { address = address; value = 0; enables = 0; changed = 0 } ≡ abortedReply (x .kind) st
+      → record { state = abortedState st; memory = memory; answer = answered (abortedState st) 13 (record { address = address; value = 0; enables = 0; changed = 0 }) } ≡ respond st start memory x code
   unfolding respond replyOf stateAfter memoryAfter
   abort-step address e r = rw (e, r)
 

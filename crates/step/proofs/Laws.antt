@@ -4,19 +4,21 @@ use mathlib.Core.Path.{_≡_, refl, _∙_}
 use mathlib.Core.Bool.{Bool, true, false, cond, _&&_, and-false}
 use mathlib.Core.List.{List, [], _∷_, _++_}
 use native.Mathlib.Omega.{arith}
+use lib.Bits.{bitXor, xor-zero-r}
 use lib.Dec.{eqb, ltb}
 use lib.ListN.{length, drop}
 use Rattle.laws.proofs.Tests.{none-applies, neither, and-at, or-right}
+use Rattle.laws.proofs.Bits.{bit-zero}
 use Rattle.laws.proofs.Done.{room-to-write}
 use borrow.Author.Tests.{eqb-false, lt-ltb, ne-eqb}
-use Rattle.machine.specs.Words.{bit, raised, shown, written}
+use Rattle.machine.specs.Words.{raised, shown, written}
 use Rattle.machine.specs.Commands.{clearsFifo}
 use Rattle.fifo.specs.Ring.{from}
-use Rattle.machine.specs.Sides.{Side, pci, addon, other, Party}
+use Rattle.machine.specs.Sides.{Side, pci, addon, other, Party, host, card}
 use Rattle.machine.specs.State.{State, held}
 use Rattle.machine.specs.Offsets.{fifoPort}
 use Rattle.machine.specs.Access.{Access, writing, isReset, cycles, accessOf, reads, writes}
-use Rattle.machine.specs.Mailboxes.{marksAfter, mailAfter}
+use Rattle.machine.specs.Mailboxes.{changes, marksAfter, mailAfter}
 use Rattle.machine.specs.Mcsr.{mcsrAfter}
 use Rattle.machine.specs.Cycles.{addressKept, countKept, addressAfter, countAfter}
 use Rattle.machine.specs.Intcsr.{intcsrWritten, outgoingEvent, incomingEvent, intcsrAfter}
@@ -88,18 +90,18 @@ done-step st start memory x code after reply answer zero reset store r a w = rw 
 -- accesses away from the FIFO port: what may change, and that nothing else does
 module _ (st : State) (s : Step) (elsewhere : s .offset ≡ 0x20 → ⊥) (word : ℕ) where
   pub pci-read-state : s .kind ≡ 0
-      → record { mail = st .mail; marks = marksAfter (accessOf s) (st .marks); fromPci = st .fromPci; fromAddon = st .fromAddon; intcsr = st .intcsr; mcsr = st .mcsr } ≡ doneState st (accessOf s) word
-  unfolding doneState mailAfter addressAfter countAfter intcsrAfter mcsrAfter
+      → record { mail = st .mail; marks = bitXor (st .marks) (changes (accessOf s) (st .marks)); fromPci = st .fromPci; fromAddon = st .fromAddon; intcsr = st .intcsr; mcsr = st .mcsr } ≡ doneState st (accessOf s) word
+  unfolding doneState mailAfter marksAfter addressAfter countAfter intcsrAfter mcsrAfter
   pci-read-state k = rw k (simp (ne-eqb (s .offset) 0x20 elsewhere))
 
   pub addon-read-state : s .kind ≡ 2
-      → record { mail = st .mail; marks = marksAfter (accessOf s) (st .marks); fromPci = st .fromPci; fromAddon = st .fromAddon; intcsr = raised (st .intcsr) (outgoingEvent (st .intcsr) (accessOf s)) 16; mcsr = st .mcsr } ≡ doneState st (accessOf s) word
-  unfolding doneState mailAfter addressAfter countAfter intcsrAfter mcsrAfter
+      → record { mail = st .mail; marks = bitXor (st .marks) (changes (accessOf s) (st .marks)); fromPci = st .fromPci; fromAddon = st .fromAddon; intcsr = raised (st .intcsr) (outgoingEvent (st .intcsr) (changes (accessOf s) (st .marks))) 16; mcsr = st .mcsr } ≡ doneState st (accessOf s) word
+  unfolding doneState mailAfter marksAfter addressAfter countAfter intcsrAfter mcsrAfter
   addon-read-state k = rw k (simp (ne-eqb (s .offset) 0x20 elsewhere))
 
   pub addon-write-state : s .kind ≡ 3
-      → record { mail = mailAfter (accessOf s) (st .mail); marks = marksAfter (accessOf s) (st .marks); fromPci = st .fromPci; fromAddon = st .fromAddon; intcsr = raised (st .intcsr) (incomingEvent (st .intcsr) (accessOf s)) 17; mcsr = st .mcsr } ≡ doneState st (accessOf s) word
-  unfolding doneState addressAfter countAfter intcsrAfter mcsrAfter
+      → record { mail = mailAfter (accessOf s) (st .mail); marks = bitXor (st .marks) (changes (accessOf s) (st .marks)); fromPci = st .fromPci; fromAddon = st .fromAddon; intcsr = raised (st .intcsr) (incomingEvent (st .intcsr) (changes (accessOf s) (st .marks))) 17; mcsr = st .mcsr } ≡ doneState st (accessOf s) word
+  unfolding doneState marksAfter addressAfter countAfter intcsrAfter mcsrAfter
   addon-write-state k = rw k (simp (ne-eqb (s .offset) 0x20 elsewhere))
 
   pub pci-write-state : s .kind ≡ 1
@@ -114,11 +116,11 @@ module _ (st : State) (s : Step) (elsewhere : s .offset ≡ 0x20 → ⊥) (word 
   unfolding doneState addressAfter countAfter intcsrAfter
   pci-write-state k = rw k (simp (ne-eqb (s .offset) 0x20 elsewhere))
 
-  pub pci-read-reply : (start : ℕ) (memory : List ℕ) → s .kind ≡ 0 → showing (shown (register st (s .offset)) (s .enables)) ≡ doneReply (accessOf s .kind) st start memory (accessOf s)
+  pub pci-read-reply : (start : ℕ) (memory : List ℕ) → s .kind ≡ 0 → showing (shown (register st (s .offset)) (s .enables)) (changes (accessOf s) (st .marks)) ≡ doneReply (accessOf s .kind) st start memory (accessOf s)
   unfolding doneReply readValue
   pci-read-reply start memory k = rw k (simp (ne-eqb (s .offset) 0x20 elsewhere))
 
-  pub addon-read-reply : (start : ℕ) (memory : List ℕ) → s .kind ≡ 2 → showing (shown (register st (s .offset)) (s .enables)) ≡ doneReply (accessOf s .kind) st start memory (accessOf s)
+  pub addon-read-reply : (start : ℕ) (memory : List ℕ) → s .kind ≡ 2 → showing (shown (register st (s .offset)) (s .enables)) (changes (accessOf s) (st .marks)) ≡ doneReply (accessOf s .kind) st start memory (accessOf s)
   unfolding doneReply readValue
   addon-read-reply start memory k = rw k (simp (ne-eqb (s .offset) 0x20 elsewhere))
 
@@ -126,36 +128,45 @@ module _ (st : State) (s : Step) (elsewhere : s .offset ≡ 0x20 → ⊥) (word 
 module _ (st : State) (s : Step) (port : s .offset ≡ 0x20) (word : ℕ) where
   pub pci-port-read-state : s .kind ≡ 0
       → record { mail = st .mail; marks = st .marks; fromPci = st .fromPci; fromAddon = record { words = drop 1 (st .fromAddon .words); address = st .fromAddon .address; count = st .fromAddon .count }; intcsr = st .intcsr; mcsr = st .mcsr } ≡ doneState st (accessOf s) word
-  unfolding doneState mailAfter marksAfter addressAfter countAfter intcsrAfter mcsrAfter
-  pci-port-read-state k = rw (k, port)
+  unfolding doneState mailAfter changes marksAfter addressAfter countAfter intcsrAfter mcsrAfter
+  pci-port-read-state k = rw (k, port) (simp xor-zero-r)
 
   pub addon-port-read-state : s .kind ≡ 2
       → record { mail = st .mail; marks = st .marks; fromPci = record { words = drop 1 (st .fromPci .words); address = st .fromPci .address; count = st .fromPci .count }; fromAddon = st .fromAddon; intcsr = st .intcsr; mcsr = st .mcsr } ≡ doneState st (accessOf s) word
-  unfolding doneState mailAfter marksAfter addressAfter countAfter intcsrAfter outgoingEvent raised mcsrAfter
-  addon-port-read-state k = rw (k, port) (simp (and-false (bit (st .intcsr) 4)))
+  unfolding doneState mailAfter changes marksAfter addressAfter countAfter intcsrAfter outgoingEvent raised mcsrAfter
+  addon-port-read-state k = rw (k, port) (simp (xor-zero-r, bit-zero, and-false))
 
   pub pci-port-write-state : s .kind ≡ 1
       → record { mail = st .mail; marks = st .marks; fromPci = record { words = st .fromPci .words ++ s .value ∷ []; address = st .fromPci .address; count = st .fromPci .count }; fromAddon = st .fromAddon; intcsr = st .intcsr; mcsr = st .mcsr } ≡ doneState st (accessOf s) word
-  unfolding doneState mailAfter marksAfter addressAfter countAfter intcsrAfter mcsrAfter
-  pci-port-write-state k = rw (k, port)
+  unfolding doneState mailAfter changes marksAfter addressAfter countAfter intcsrAfter mcsrAfter
+  pci-port-write-state k = rw (k, port) (simp xor-zero-r)
 
   pub addon-port-write-state : s .kind ≡ 3
       → record { mail = st .mail; marks = st .marks; fromPci = st .fromPci; fromAddon = record { words = st .fromAddon .words ++ s .value ∷ []; address = st .fromAddon .address; count = st .fromAddon .count }; intcsr = st .intcsr; mcsr = st .mcsr } ≡ doneState st (accessOf s) word
-  unfolding doneState mailAfter marksAfter addressAfter countAfter intcsrAfter incomingEvent raised mcsrAfter
-  addon-port-write-state k = rw (k, port) (simp (and-false (bit (st .intcsr) 12)))
+  unfolding doneState mailAfter changes marksAfter addressAfter countAfter intcsrAfter incomingEvent raised mcsrAfter
+  addon-port-write-state k = rw (k, port) (simp (xor-zero-r, bit-zero, and-false))
 
-  pub pci-port-reply : (start : ℕ) (memory : List ℕ) → s .kind ≡ 0 → showing (front (held addon st)) ≡ doneReply (accessOf s .kind) st start memory (accessOf s)
-  unfolding doneReply readValue
+  pub pci-port-reply : (start : ℕ) (memory : List ℕ) → s .kind ≡ 0 → showing (front (held addon st)) 0 ≡ doneReply (accessOf s .kind) st start memory (accessOf s)
+  unfolding doneReply readValue changes
   pci-port-reply start memory k = rw (k, port)
 
-  pub addon-port-reply : (start : ℕ) (memory : List ℕ) → s .kind ≡ 2 → showing (front (held pci st)) ≡ doneReply (accessOf s .kind) st start memory (accessOf s)
-  unfolding doneReply readValue
+  pub addon-port-reply : (start : ℕ) (memory : List ℕ) → s .kind ≡ 2 → showing (front (held pci st)) 0 ≡ doneReply (accessOf s .kind) st start memory (accessOf s)
+  unfolding doneReply readValue changes
   addon-port-reply start memory k = rw (k, port)
 
--- a write answers nothing
-pub write-reply : (s : Step) (st : State) (start : ℕ) (memory : List ℕ) (x : Access) (party : Party) → x .kind ≡ writing party → nothing ≡ doneReply (x .kind) st start memory x
-unfolding doneReply
-write-reply s st start memory x party k = rw k
+-- a write answers no more than the marks that it changed, and at the port there are none
+module _ (st : State) (start : ℕ) (memory : List ℕ) (x : Access) (party : Party) (k : x .kind ≡ writing party) where
+  pub write-reply : showing 0 (changes x (st .marks)) ≡ doneReply (x .kind) st start memory x
+  unfolding doneReply
+  write-reply = rw k
+
+  pub port-write-reply : x .offset ≡ 0x20 → nothing ≡ doneReply (x .kind) st start memory x
+  unfolding doneReply changes
+  port-write-reply port = rw (k, port) (none party)
+    where
+      none : (p : Party) → nothing ≡ showing 0 (changes (record { kind = writing p; offset = 0x20; enables = x .enables; value = x .value }) (st .marks))
+      none host = refl
+      none card = refl
 
 -- a FIFO that is cleared has no words
 pub cleared-words : (clear : Bool) (places : List ℕ) (head fill : ℕ) → from 8 0 places head (cond clear 0 fill) ≡ cond clear [] (from 8 0 places head fill)

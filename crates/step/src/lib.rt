@@ -40,8 +40,8 @@ const RUN: usize = 8;
 // ---- answers
 
 // What is answered, with the line of the state that is left, but for code 1.
-fn answered(b: Bank, code: u32, address: u32, value: u32, enables: u32) -> Banked
-    ensures { λ r. ⌜ (r .bank ≡ b) × ((mail pci addon : List ℕ) → r .answer ≡ answered (stateIn b mail pci addon) code (record { address = address; value = value; enables = enables })) ⌝ }
+fn answered(b: Bank, code: u32, address: u32, value: u32, enables: u32, changed: u32) -> Banked
+    ensures { λ r. ⌜ (r .bank ≡ b) × ((mail pci addon : List ℕ) → r .answer ≡ answered (stateIn b mail pci addon) code (record { address = address; value = value; enables = enables; changed = changed })) ⌝ }
 {
     let i = intcsr::line(b.intcsr);
     let line = (code != codes::STATE_OUT_OF_FORM) & i;
@@ -51,18 +51,19 @@ fn answered(b: Bank, code: u32, address: u32, value: u32, enables: u32) -> Banke
         value,
         enables,
         line,
+        changed,
     };
     Banked { bank: b, answer }
 }
 
 // Code 13: INTCSR bit 20 is set, and the address answered.
 fn aborted(b: Bank, address: u32) -> Banked
-    ensures { λ r. ⌜ ((mail pci addon : List ℕ) → (stateIn (r .bank) mail pci addon ≡ abortedState (stateIn b mail pci addon)) × (r .answer ≡ answered (abortedState (stateIn b mail pci addon)) 13 (record { address = address; value = 0; enables = 0 }))) ⌝ }
+    ensures { λ r. ⌜ ((mail pci addon : List ℕ) → (stateIn (r .bank) mail pci addon ≡ abortedState (stateIn b mail pci addon)) × (r .answer ≡ answered (abortedState (stateIn b mail pci addon)) 13 (record { address = address; value = 0; enables = 0; changed = 0 }))) ⌝ }
 {
     let i = intcsr::aborted(b.intcsr);
     let mut next = b;
     next.intcsr = i;
-    answered(next, codes::NO_MEMORY_THERE, address, 0, 0)
+    answered(next, codes::NO_MEMORY_THERE, address, 0, 0, 0)
 }
 
 // ---- the kinds
@@ -102,7 +103,7 @@ fn pci_read(b: Bank, mail: &[u32], addon: &[u32], s: Step) -> Banked
 {
     let code = refusal::access_code(b, s);
     if code != codes::DONE {
-        return answered(b, code, 0, 0, 0);
+        return answered(b, code, 0, 0, 0, 0);
     }
     let mut next = b;
     if s.offset == offsets::FIFO_PORT {
@@ -111,12 +112,12 @@ fn pci_read(b: Bank, mail: &[u32], addon: &[u32], s: Step) -> Banked
         let n = fifo::one_less(b.addon_fill);
         next.addon_head = h;
         next.addon_fill = n;
-        return answered(next, codes::DONE, 0, x, 0);
+        return answered(next, codes::DONE, 0, x, 0, 0);
     }
     let x = word::shown(register(b, mail, s.offset), s.enables);
-    let m = mailboxes::marks_after(s, b.marks);
-    next.marks = m;
-    answered(next, codes::DONE, 0, x, 0)
+    let changed = mailboxes::changes(s, b.marks);
+    next.marks = b.marks ^ changed;
+    answered(next, codes::DONE, 0, x, 0, changed)
 }
 
 // An Add-On read: the same with the FIFO from PCI, and an event.
@@ -126,7 +127,7 @@ fn addon_read(b: Bank, mail: &[u32], pci: &[u32], s: Step) -> Banked
 {
     let code = refusal::access_code(b, s);
     if code != codes::DONE {
-        return answered(b, code, 0, 0, 0);
+        return answered(b, code, 0, 0, 0, 0);
     }
     let mut next = b;
     if s.offset == offsets::FIFO_PORT {
@@ -135,14 +136,14 @@ fn addon_read(b: Bank, mail: &[u32], pci: &[u32], s: Step) -> Banked
         let n = fifo::one_less(b.pci_fill);
         next.pci_head = h;
         next.pci_fill = n;
-        return answered(next, codes::DONE, 0, x, 0);
+        return answered(next, codes::DONE, 0, x, 0, 0);
     }
     let x = word::shown(register(b, mail, s.offset), s.enables);
-    let m = mailboxes::marks_after(s, b.marks);
-    let i = intcsr::after_addon_read(b.intcsr, s);
-    next.marks = m;
+    let changed = mailboxes::changes(s, b.marks);
+    let i = intcsr::after_addon_read(b.intcsr, changed);
+    next.marks = b.marks ^ changed;
     next.intcsr = i;
-    answered(next, codes::DONE, 0, x, 0)
+    answered(next, codes::DONE, 0, x, 0, changed)
 }
 
 // The numbers after a PCI write to a register that is not the FIFO port.
@@ -188,17 +189,18 @@ fn pci_write(b: Bank, mail: &mut [u32], pci: &mut [u32], s: Step) -> Banked
 {
     let code = refusal::access_code(b, s);
     if code != codes::DONE {
-        return answered(b, code, 0, 0, 0);
+        return answered(b, code, 0, 0, 0, 0);
     }
     if s.offset == offsets::FIFO_PORT {
         fifo::push(pci, b.pci_head, b.pci_fill, s.value);
         let n = fifo::one_more(b.pci_fill);
         let mut next = b;
         next.pci_fill = n;
-        return answered(next, codes::DONE, 0, 0, 0);
+        return answered(next, codes::DONE, 0, 0, 0, 0);
     }
     mailboxes::store(mail, s);
-    answered(operation_write(b, s), codes::DONE, 0, 0, 0)
+    let changed = mailboxes::changes(s, b.marks);
+    answered(operation_write(b, s), codes::DONE, 0, 0, 0, changed)
 }
 
 // An Add-On write: a word into the FIFO from the Add-On, or a mailbox, and an event.
@@ -209,21 +211,21 @@ fn addon_write(b: Bank, mail: &mut [u32], addon: &mut [u32], s: Step) -> Banked
 {
     let code = refusal::access_code(b, s);
     if code != codes::DONE {
-        return answered(b, code, 0, 0, 0);
+        return answered(b, code, 0, 0, 0, 0);
     }
     let mut next = b;
     if s.offset == offsets::FIFO_PORT {
         fifo::push(addon, b.addon_head, b.addon_fill, s.value);
         let n = fifo::one_more(b.addon_fill);
         next.addon_fill = n;
-        return answered(next, codes::DONE, 0, 0, 0);
+        return answered(next, codes::DONE, 0, 0, 0, 0);
     }
     mailboxes::store(mail, s);
-    let m = mailboxes::marks_after(s, b.marks);
-    let i = intcsr::after_addon_write(b.intcsr, s);
-    next.marks = m;
+    let changed = mailboxes::changes(s, b.marks);
+    let i = intcsr::after_addon_write(b.intcsr, changed);
+    next.marks = b.marks ^ changed;
     next.intcsr = i;
-    answered(next, codes::DONE, 0, 0, 0)
+    answered(next, codes::DONE, 0, 0, 0, changed)
 }
 
 // A write cycle: the front word of the FIFO from the Add-On goes to the memory.
@@ -236,7 +238,7 @@ fn write_cycle(b: Bank, addon: &[u32], memory: &mut [u32], start: u32) -> Banked
         return aborted(b, address);
     }
     if code != codes::DONE {
-        return answered(b, code, 0, 0, 0);
+        return answered(b, code, 0, 0, 0, 0);
     }
     let at = address::place(start, address) as usize;
     let x = fifo::front(addon, b.addon_head);
@@ -253,7 +255,7 @@ fn write_cycle(b: Bank, addon: &[u32], memory: &mut [u32], start: u32) -> Banked
     next.write_address = on;
     next.write_count = less;
     next.intcsr = i;
-    answered(next, codes::DONE, address, x, e)
+    answered(next, codes::DONE, address, x, e, 0)
 }
 
 // A read cycle: a word of the memory goes into the FIFO from PCI.
@@ -267,7 +269,7 @@ fn read_cycle(b: Bank, pci: &mut [u32], memory: &[u32], start: u32) -> Banked
         return aborted(b, address);
     }
     if code != codes::DONE {
-        return answered(b, code, 0, 0, 0);
+        return answered(b, code, 0, 0, 0, 0);
     }
     let at = address::place(start, address) as usize;
     let e = count::low_enables(b.read_count);
@@ -282,7 +284,7 @@ fn read_cycle(b: Bank, pci: &mut [u32], memory: &[u32], start: u32) -> Banked
     next.read_address = on;
     next.read_count = less;
     next.intcsr = i;
-    answered(next, codes::DONE, address, x, e)
+    answered(next, codes::DONE, address, x, e, 0)
 }
 
 // A chip reset.
@@ -311,7 +313,7 @@ fn reset(mail: &mut [u32]) -> Banked
         addon_head: 0,
         addon_fill: WordFill(0),
     };
-    answered(b, codes::DONE, 0, 0, 0)
+    answered(b, codes::DONE, 0, 0, 0, 0)
 }
 
 // ---- the step
@@ -331,7 +333,7 @@ fn by_kind(
     ensures { λ r. ⌜ outcomeIn r (now (mail .exit)) (now (pci .exit)) (now (addon .exit)) (now (memory .exit)) ≡ toldStep form (stateIn b (now (mail .entry)) (now (pci .entry)) (now (addon .entry))) start (now (memory .entry)) s ⌝ }
 {
     if form != codes::DONE {
-        return answered(b, form, 0, 0, 0);
+        return answered(b, form, 0, 0, 0, 0);
     }
     let kind = s.kind;
     match kind {
@@ -342,7 +344,7 @@ fn by_kind(
         4 => write_cycle(b, addon, memory, start),
         5 => read_cycle(b, pci, memory, start),
         6 => reset(mail),
-        _ => answered(b, codes::UNKNOWN_STEP, 0, 0, 0),
+        _ => answered(b, codes::UNKNOWN_STEP, 0, 0, 0, 0),
     }
 }
 
@@ -360,13 +362,13 @@ pub fn in_bank(
     ensures { λ r. ⌜ InBank b (now (mail .entry)) (now (pci .entry)) (now (addon .entry)) (now (memory .entry)) start form s r (now (mail .exit)) (now (pci .exit)) (now (addon .exit)) (now (memory .exit)) ⌝ }
 {
     if mail.len() != RUN {
-        return answered(b, codes::STATE_OUT_OF_FORM, 0, 0, 0);
+        return answered(b, codes::STATE_OUT_OF_FORM, 0, 0, 0, 0);
     }
     if pci.len() != RUN {
-        return answered(b, codes::STATE_OUT_OF_FORM, 0, 0, 0);
+        return answered(b, codes::STATE_OUT_OF_FORM, 0, 0, 0, 0);
     }
     if addon.len() != RUN {
-        return answered(b, codes::STATE_OUT_OF_FORM, 0, 0, 0);
+        return answered(b, codes::STATE_OUT_OF_FORM, 0, 0, 0, 0);
     }
     by_kind(b, mail, pci, addon, memory, start, form, s)
 }

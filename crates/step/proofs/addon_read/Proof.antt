@@ -29,26 +29,26 @@ returns-2 c = λ addon start memory.
     let some = addon-port-read (a .b) (a .s) (sym (code .ensures .1 [] [] []) ∙ c .before .before .before .before .before .before .if1 .left) port k in
     let word = c .before .before .before .front .ensures ∙ from-front 8 0 (now (a .pci)) (a .b .«pci_head») (a .b .«pci_fill» .0) some in
     rw (c .answered2 .ensures .0)
-    (done-step st start memory (accessOf (a .s)) (accessCode st (accessOf (a .s))) _ (showing (c .before .before .before .front .result)) _
+    (done-step st start memory (accessOf (a .s)) (accessCode st (accessOf (a .s))) _ (showing (c .before .before .before .front .result) 0) _
     (sym (code .ensures .1 (now (a .mail)) (now (a .pci)) addon) ∙ c .before .before .before .before .before .before .if1 .left)
     (rw k) (rw k)
-    (ap showing word ∙ addon-port-reply st (a .s) port 0 start memory k)
+    (ap (λ w. showing w 0) word ∙ addon-port-reply st (a .s) port 0 start memory k)
     (rw (c .before .before .past .ensures, c .before .one-less .ensures, from-pop 8 0 (now (a .pci)) (a .b .«pci_head») (a .b .«pci_fill» .0) some) (addon-port-read-state st (a .s) port (c .before .before .before .front .result) k))
     (c .answered2 .ensures .1 (now (a .mail)) (now (a .pci)) addon))
 
 returns-3 : tie.Need-returns-3
 unfolding stateIn
 returns-3 c = λ addon start memory.
-    let a = c .before .before .before .before .before .before .before .before .before .before .before .args in
-    let k = c .before .before .before .before .before .before .before .before .before .before .before .pre in
-    let code = c .before .before .before .before .before .before .before .before .access-code in
+    let a = c .before .before .before .before .before .before .before .before .before .before .before .before .args in
+    let k = c .before .before .before .before .before .before .before .before .before .before .before .before .pre in
+    let code = c .before .before .before .before .before .before .before .before .before .access-code in
     let st = stateIn (a .b) (now (a .mail)) (now (a .pci)) addon in
     rw (c .answered3 .ensures .0)
-    (done-step st start memory (accessOf (a .s)) (accessCode st (accessOf (a .s))) _ (showing (c .before .before .before .shown .result)) _
-    (sym (code .ensures .1 (now (a .mail)) (now (a .pci)) addon) ∙ c .before .before .before .before .before .before .before .if1 .left)
+    (done-step st start memory (accessOf (a .s)) (accessCode st (accessOf (a .s))) _ (showing (c .before .before .before .before .shown .result) (c .before .before .before .changes .result)) _
+    (sym (code .ensures .1 (now (a .mail)) (now (a .pci)) addon) ∙ c .before .before .before .before .before .before .before .before .if1 .left)
     (rw k) (rw k)
-    (rw (c .before .before .before .shown .ensures, c .before .before .before .before .register .ensures (now (a .pci)) addon) (addon-read-reply st (a .s) (c .before .before .before .before .before .if2 .left) 0 start memory k))
-    (rw (c .before .after-addon-read .ensures, c .before .before .marks-after .ensures) (addon-read-state st (a .s) (c .before .before .before .before .before .if2 .left) (c .before .before .before .shown .result) k))
+    (rw (c .before .before .before .before .shown .ensures, c .before .before .before .before .before .register .ensures (now (a .pci)) addon, c .before .before .before .changes .ensures) (addon-read-reply st (a .s) (c .before .before .before .before .before .before .if2 .left) 0 start memory k))
+    (rw (c .before .before .after-addon-read .ensures, c .before .before .before .changes .ensures) (addon-read-state st (a .s) (c .before .before .before .before .before .before .if2 .left) (c .before .before .before .before .shown .result) k))
     (c .answered3 .ensures .1 (now (a .mail)) (now (a .pci)) addon))
 
 pub addon-read-spec : {M : Type 1} → statement M

@@ -2,11 +2,11 @@ use denote.Ref.{now}
 use mathlib.Core.Path.{sym, _∙_}
 use mathlib.Core.List.{[]}
 use Rattle.machine.specs.Access.{accessOf}
-use Rattle.machine.specs.Step.{nothing}
+use Rattle.machine.specs.Step.{nothing, showing}
 use Rattle.refusal.specs.Codes.{accessCode}
 use Rattle.bank.specs.Bank.{stateIn}
 use Rattle.machine.specs.Sides.{card}
-use Rattle.step.proofs.Laws.{refusal, done-step, one-more-in, addon-port-write, addon-port-write-state, write-reply, addon-write-state}
+use Rattle.step.proofs.Laws.{refusal, done-step, one-more-in, addon-port-write, addon-port-write-state, write-reply, port-write-reply, addon-write-state}
 use borrow.Author.Needs.{needs}
 use Rattle.step.proofs.addon_write.Statement.{statement}
 use Rattle.step.proofs.addon_write.Tie as tie
@@ -31,24 +31,24 @@ returns-2 c = λ pci start memory.
     (done-step st start memory (accessOf (a .s)) (accessCode st (accessOf (a .s))) _ nothing _
     (sym (code .ensures .1 (now (a .mail)) pci (now (a .addon))) ∙ c .before .before .before .before .before .before .before .before .if1 .left)
     (rw k) (rw k)
-    (write-reply (a .s) st start memory (accessOf (a .s)) card (rw k))
+    (port-write-reply st start memory (accessOf (a .s)) card (rw k) port)
     (rw (one-more-in (a .b .«addon_fill» .0) (c .before .one-more .result .0) (c .before .one-more .ensures) some, c .before .before .before .before .push .ensures (c .before .before .before .before .before .before .before .before .before .before .before .before .pre .1) some) (addon-port-write-state st (a .s) port 0 k))
     (c .answered2 .ensures .1 (now (a .mail)) pci (c .before .before .before .before .push .last .0)))
 
 returns-3 : tie.Need-returns-3
 unfolding stateIn
 returns-3 c = λ pci start memory.
-    let a = c .before .before .before .before .before .before .before .before .before .before .before .before .before .args in
-    let k = c .before .before .before .before .before .before .before .before .before .before .before .before .before .pre .0 in
-    let code = c .before .before .before .before .before .before .before .before .before .before .access-code in
+    let a = c .before .before .before .before .before .before .before .before .before .before .before .before .before .before .args in
+    let k = c .before .before .before .before .before .before .before .before .before .before .before .before .before .before .pre .0 in
+    let code = c .before .before .before .before .before .before .before .before .before .before .before .access-code in
     let st = stateIn (a .b) (now (a .mail)) pci (now (a .addon)) in
     rw (c .answered3 .ensures .0)
-    (done-step st start memory (accessOf (a .s)) (accessCode st (accessOf (a .s))) _ nothing _
-    (sym (code .ensures .1 (now (a .mail)) pci (now (a .addon))) ∙ c .before .before .before .before .before .before .before .before .before .if1 .left)
+    (done-step st start memory (accessOf (a .s)) (accessCode st (accessOf (a .s))) _ (showing 0 (c .before .before .before .changes .result)) _
+    (sym (code .ensures .1 (now (a .mail)) pci (now (a .addon))) ∙ c .before .before .before .before .before .before .before .before .before .before .if1 .left)
     (rw k) (rw k)
-    (write-reply (a .s) st start memory (accessOf (a .s)) card (rw k))
-    (rw (c .before .after-addon-write .ensures, c .before .before .marks-after .ensures, c .before .before .before .before .before .store .ensures) (addon-write-state st (a .s) (c .before .before .before .before .before .before .before .if2 .left) 0 k))
-    (c .answered3 .ensures .1 (c .before .before .before .before .before .store .last .0) pci (now (a .addon))))
+    (rw (c .before .before .before .changes .ensures) (write-reply st start memory (accessOf (a .s)) card (rw k)))
+    (rw (c .before .before .after-addon-write .ensures, c .before .before .before .changes .ensures, c .before .before .before .before .before .before .store .ensures) (addon-write-state st (a .s) (c .before .before .before .before .before .before .before .before .if2 .left) 0 k))
+    (c .answered3 .ensures .1 (c .before .before .before .before .before .before .store .last .0) pci (now (a .addon))))
 
 pub addon-write-spec : {M : Type 1} → statement M
 addon-write-spec =

@@ -29,26 +29,26 @@ returns-2 c = λ pci start memory.
     let some = pci-port-read (a .b) (a .s) (sym (code .ensures .1 [] [] []) ∙ c .before .before .before .before .before .before .if1 .left) port k in
     let word = c .before .before .before .front .ensures ∙ from-front 8 0 (now (a .addon)) (a .b .«addon_head») (a .b .«addon_fill» .0) some in
     rw (c .answered2 .ensures .0)
-    (done-step st start memory (accessOf (a .s)) (accessCode st (accessOf (a .s))) _ (showing (c .before .before .before .front .result)) _
+    (done-step st start memory (accessOf (a .s)) (accessCode st (accessOf (a .s))) _ (showing (c .before .before .before .front .result) 0) _
     (sym (code .ensures .1 (now (a .mail)) pci (now (a .addon))) ∙ c .before .before .before .before .before .before .if1 .left)
     (rw k) (rw k)
-    (ap showing word ∙ pci-port-reply st (a .s) port 0 start memory k)
+    (ap (λ w. showing w 0) word ∙ pci-port-reply st (a .s) port 0 start memory k)
     (rw (c .before .before .past .ensures, c .before .one-less .ensures, from-pop 8 0 (now (a .addon)) (a .b .«addon_head») (a .b .«addon_fill» .0) some) (pci-port-read-state st (a .s) port (c .before .before .before .front .result) k))
     (c .answered2 .ensures .1 (now (a .mail)) pci (now (a .addon))))
 
 returns-3 : tie.Need-returns-3
 unfolding stateIn
 returns-3 c = λ pci start memory.
-    let a = c .before .before .before .before .before .before .before .before .before .before .args in
-    let k = c .before .before .before .before .before .before .before .before .before .before .pre in
-    let code = c .before .before .before .before .before .before .before .access-code in
+    let a = c .before .before .before .before .before .before .before .before .before .before .before .args in
+    let k = c .before .before .before .before .before .before .before .before .before .before .before .pre in
+    let code = c .before .before .before .before .before .before .before .before .access-code in
     let st = stateIn (a .b) (now (a .mail)) pci (now (a .addon)) in
     rw (c .answered3 .ensures .0)
-    (done-step st start memory (accessOf (a .s)) (accessCode st (accessOf (a .s))) _ (showing (c .before .before .shown .result)) _
-    (sym (code .ensures .1 (now (a .mail)) pci (now (a .addon))) ∙ c .before .before .before .before .before .before .if1 .left)
+    (done-step st start memory (accessOf (a .s)) (accessCode st (accessOf (a .s))) _ (showing (c .before .before .before .shown .result) (c .before .before .changes .result)) _
+    (sym (code .ensures .1 (now (a .mail)) pci (now (a .addon))) ∙ c .before .before .before .before .before .before .before .if1 .left)
     (rw k) (rw k)
-    (rw (c .before .before .shown .ensures, c .before .before .before .register .ensures pci (now (a .addon))) (pci-read-reply st (a .s) (c .before .before .before .before .if2 .left) 0 start memory k))
-    (rw (c .before .marks-after .ensures) (pci-read-state st (a .s) (c .before .before .before .before .if2 .left) (c .before .before .shown .result) k))
+    (rw (c .before .before .before .shown .ensures, c .before .before .before .before .register .ensures pci (now (a .addon)), c .before .before .changes .ensures) (pci-read-reply st (a .s) (c .before .before .before .before .before .if2 .left) 0 start memory k))
+    (rw (c .before .before .changes .ensures) (pci-read-state st (a .s) (c .before .before .before .before .before .if2 .left) (c .before .before .before .shown .result) k))
     (c .answered3 .ensures .1 (now (a .mail)) pci (now (a .addon))))
 
 pub pci-read-spec : {M : Type 1} → statement M

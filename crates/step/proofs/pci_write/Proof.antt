@@ -2,11 +2,11 @@ use denote.Ref.{now}
 use mathlib.Core.Path.{sym, _∙_}
 use mathlib.Core.List.{[]}
 use Rattle.machine.specs.Access.{accessOf}
-use Rattle.machine.specs.Step.{nothing}
+use Rattle.machine.specs.Step.{nothing, showing}
 use Rattle.refusal.specs.Codes.{accessCode}
 use Rattle.bank.specs.Bank.{stateIn}
 use Rattle.machine.specs.Sides.{host}
-use Rattle.step.proofs.Laws.{refusal, done-step, one-more-in, pci-port-write, pci-port-write-state, write-reply}
+use Rattle.step.proofs.Laws.{refusal, done-step, one-more-in, pci-port-write, pci-port-write-state, write-reply, port-write-reply}
 use borrow.Author.Needs.{needs}
 use Rattle.step.proofs.pci_write.Statement.{statement}
 use Rattle.step.proofs.pci_write.Tie as tie
@@ -31,23 +31,24 @@ returns-2 c = λ addon start memory.
     (done-step st start memory (accessOf (a .s)) (accessCode st (accessOf (a .s))) _ nothing _
     (sym (code .ensures .1 (now (a .mail)) (now (a .pci)) addon) ∙ c .before .before .before .before .before .before .before .before .if1 .left)
     (rw k) (rw k)
-    (write-reply (a .s) st start memory (accessOf (a .s)) host (rw k))
+    (port-write-reply st start memory (accessOf (a .s)) host (rw k) port)
     (rw (one-more-in (a .b .«pci_fill» .0) (c .before .one-more .result .0) (c .before .one-more .ensures) some, c .before .before .before .before .push .ensures (c .before .before .before .before .before .before .before .before .before .before .before .before .pre .1) some) (pci-port-write-state st (a .s) port 0 k))
     (c .answered2 .ensures .1 (now (a .mail)) (c .before .before .before .before .push .last .0) addon))
 
 returns-3 : tie.Need-returns-3
+unfolding stateIn
 returns-3 c = λ addon start memory.
-    let a = c .before .before .before .before .before .before .before .before .before .before .before .before .args in
-    let k = c .before .before .before .before .before .before .before .before .before .before .before .before .pre .0 in
-    let code = c .before .before .before .before .before .before .before .before .before .access-code in
+    let a = c .before .before .before .before .before .before .before .before .before .before .before .before .before .args in
+    let k = c .before .before .before .before .before .before .before .before .before .before .before .before .before .pre .0 in
+    let code = c .before .before .before .before .before .before .before .before .before .before .access-code in
     let st = stateIn (a .b) (now (a .mail)) (now (a .pci)) addon in
     rw (c .answered3 .ensures .0)
-    (done-step st start memory (accessOf (a .s)) (accessCode st (accessOf (a .s))) _ nothing _
-    (sym (code .ensures .1 (now (a .mail)) (now (a .pci)) addon) ∙ c .before .before .before .before .before .before .before .before .if1 .left)
+    (done-step st start memory (accessOf (a .s)) (accessCode st (accessOf (a .s))) _ (showing 0 (c .before .before .changes .result)) _
+    (sym (code .ensures .1 (now (a .mail)) (now (a .pci)) addon) ∙ c .before .before .before .before .before .before .before .before .before .if1 .left)
     (rw k) (rw k)
-    (write-reply (a .s) st start memory (accessOf (a .s)) host (rw k))
-    (rw (c .before .before .before .before .store .ensures) (c .before .operation-write .ensures (now (a .mail)) (now (a .pci)) addon 0))
-    (c .answered3 .ensures .1 (c .before .before .before .before .store .last .0) (now (a .pci)) addon))
+    (rw (c .before .before .changes .ensures) (write-reply st start memory (accessOf (a .s)) host (rw k)))
+    (rw (c .before .before .before .before .before .store .ensures) (c .before .operation-write .ensures (now (a .mail)) (now (a .pci)) addon 0))
+    (c .answered3 .ensures .1 (c .before .before .before .before .before .store .last .0) (now (a .pci)) addon))
 
 pub pci-write-spec : {M : Type 1} → statement M
 pci-write-spec =
@@ -61,6 +62,7 @@ pci-write-spec =
     (λ c κs. search needs)
     (λ c. search needs)
     returns-2
+    (λ c κs. search needs)
     (λ c κs. search needs)
     (λ c κs. search needs)
     (λ c κs. search needs)

@@ -51,7 +51,7 @@ returns-3 c = λ mail behind offset enables value.
     let here = now (a .pci) in
     let st = stateIn b mail here behind in
     let some = read-cycle-room b (a .start) (length (now (a .memory))) (sym (code .ensures .1 [] [] []) ∙ g .if2 .left) in
-    let reply : Reply = record { address = b .«read_address»; value = w .shown .result; enables = e .low-enables .result } in
+    let reply : Reply = record { address = b .«read_address»; value = w .shown .result; enables = e .low-enables .result; changed = 0 } in
     rw (c .answered2 .ensures .0)
     (done-step st (a .start) (now (a .memory)) (cycleBy pci offset enables value) (cycleCode pci st (a .start) (length (now (a .memory)))) _ reply _
     (sym (code .ensures .1 mail here behind) ∙ g .if2 .left)

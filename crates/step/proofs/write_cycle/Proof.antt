@@ -58,12 +58,12 @@ returns-3 c = λ mail places offset enables value.
     let st = stateIn b mail places here in
     let some = write-cycle-word b (a .start) (length (now (a .memory))) (sym (code .ensures .1 [] [] []) ∙ g .if2 .left) in
     let word = f .front .ensures ∙ from-front 8 0 here (b .«addon_head») (b .«addon_fill» .0) some in
-    let reply : Reply = record { address = b .«write_address»; value = f .front .result; enables = e .low-enables .result } in
+    let reply : Reply = record { address = b .«write_address»; value = f .front .result; enables = e .low-enables .result; changed = 0 } in
     rw (c .answered2 .ensures .0)
     (done-write-cycle st (a .start) (now (a .memory)) (cycleBy addon offset enables value) (cycleCode addon st (a .start) (length (now (a .memory)))) _ reply _ _
     (sym (code .ensures .1 mail places here) ∙ g .if2 .left)
     refl
-    (λ i. record { address = b .«write_address»; value = word i; enables = e .low-enables .ensures i })
+    (λ i. record { address = b .«write_address»; value = word i; enables = e .low-enables .ensures i; changed = 0 })
     (rw (q .past .ensures, n .before .before .before .one-less .ensures, from-pop 8 0 here (b .«addon_head») (b .«addon_fill» .0) some, n .before .before .after-write-cycle .ensures, n .before .count-left .ensures, n .next-address .ensures) (write-cycle-state st offset enables value (f .front .result)))
     (simp (q .before .merged .ensures, e .low-enables .ensures, word, f .before .place .ensures))
     (c .answered2 .ensures .1 mail places here))
