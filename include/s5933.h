@@ -12,13 +12,13 @@ extern "C" {
 #endif
 
 /* The version of the model, as ./s5933-log --version prints it. */
-#define S5933_VERSION "1.2"
+#define S5933_VERSION "1.3"
 
 /* The longest input, in bytes. */
 #define S5933_INPUT_MOST 1048576
 
 /* The bytes of output that each line of the input wants. No log line is longer. */
-#define S5933_LINE_ROOM 40
+#define S5933_LINE_ROOM 41
 
 /* The sets of labels. */
 #define S5933_ENGLISH 0
@@ -56,8 +56,9 @@ enum {
     S5933_DATA_AT = 10, S5933_DATA_DIGITS = 8,
     S5933_ENABLES_AT = 18, S5933_ENABLES_DIGITS = 1,
     S5933_INTERRUPT_AT = 19, S5933_INTERRUPT_DIGITS = 1,
-    S5933_SPACE_AT = 20,
-    S5933_LABEL_AT = 21
+    S5933_ADDON_INTERRUPT_AT = 20, S5933_ADDON_INTERRUPT_DIGITS = 1,
+    S5933_SPACE_AT = 21,
+    S5933_LABEL_AT = 22
 };
 
 /* The digits of a frame line, as printf writes them: "%02X%02X%X%08X" of kind, offset, enables and data. */
@@ -74,7 +75,10 @@ enum {
     S5933_CHIP_RESET = 6
 };
 
-/* The offsets, by the names of docs/REGISTERS.md. The Add-On side has the mailboxes, the FIFO port and MBEF. */
+/*
+ * The offsets, by the names of docs/REGISTERS.md. The Add-On side has the mailboxes, the FIFO port and MBEF, and where the PCI side
+ * has INTCSR and MCSR two registers of its own, AINT and AGCSTS.
+ */
 enum {
     S5933_OMB1 = 0x00, S5933_OMB2 = 0x04, S5933_OMB3 = 0x08, S5933_OMB4 = 0x0C,
     S5933_IMB1 = 0x10, S5933_IMB2 = 0x14, S5933_IMB3 = 0x18, S5933_IMB4 = 0x1C,
@@ -82,8 +86,8 @@ enum {
     S5933_MWAR = 0x24, S5933_MWTC = 0x28,
     S5933_MRAR = 0x2C, S5933_MRTC = 0x30,
     S5933_MBEF = 0x34,
-    S5933_INTCSR = 0x38,
-    S5933_MCSR = 0x3C
+    S5933_INTCSR = 0x38, S5933_AINT = 0x38,
+    S5933_MCSR = 0x3C, S5933_AGCSTS = 0x3C
 };
 
 /*

@@ -165,11 +165,13 @@ static size_t write_log(const uint8_t *bytes, size_t n,
             a = model_step(&chip, &window, &s);
         else
             a = (struct answer){ .code = NOT_A_FRAME_LINE,
-                                 .line = model_line(&chip) };
-        used += (size_t)sprintf(text, "%02X%08X%08X%X%X %s\n",
+                                 .line = model_line(&chip),
+                                 .addon_line = model_addon_line(&chip) };
+        used += (size_t)sprintf(text, "%02X%08X%08X%X%X%X %s\n",
                                 (unsigned)a.code, (unsigned)a.address,
                                 (unsigned)a.data, (unsigned)a.enables,
-                                (unsigned)a.line, label[a.code]);
+                                (unsigned)a.line, (unsigned)a.addon_line,
+                                label[a.code]);
         memcpy(log + used - strlen(text), text, strlen(text));
         at += line + 1;
     }
@@ -217,7 +219,7 @@ static int64_t wanted(const struct text *t, size_t output_length,
         return -2;
     if (set > 1)
         return -3;
-    if (output_length < 40 * t->lines)
+    if (output_length < 41 * t->lines)
         return -1;
     return (int64_t)t->log_length[set];
 }
@@ -257,7 +259,7 @@ static void call(const struct text *t, enum place in_place,
     memcpy(input, t->bytes, t->length);
     protect(in, PROT_READ);
     memcpy(out->start, fill, out->size);
-    if (s5933_room(input, t->length) != 40 * t->lines)
+    if (s5933_room(input, t->length) != 41 * t->lines)
         fail("the header counts another room");
     returned = s5933_log(input, t->length, output, output_length, set);
     calls++;
@@ -316,7 +318,8 @@ static uint32_t random32(void)
 static const uint8_t mixed[] =
     "03101000000A5\n0034F00000000\n\nxyz\n0520F00000000\n013CF00004400\n"
     "0124F00004000\n0128F00000004\n0320F12345678\n0400000000000\n"
-    "0400000000000\n0138F00100000\n\r\n0620F000000000\n0a34F00000000\n"
+    "0400000000000\n0138F00100000\n0238F00000000\n023CF00000000\n\r\n"
+    "0338400200000\n0620F000000000\n0a34F00000000\n"
     "FF00000000000\n00100000000\n0010100000000";
 
 /* A text on every output length up to a line more than it needs. */
@@ -356,11 +359,12 @@ static void nothing_kept(void)
     static const uint8_t text[] =
         "0000F00000000\n0210F00000000\n0024F00000000\n0028F00000000\n"
         "002CF00000000\n0030F00000000\n0034F00000000\n0038F00000000\n"
-        "003CF00000000\n0020F00000000\n0220F00000000\n013CF00004400\n"
+        "003CF00000000\n0238F00000000\n023CF00000000\n0020F00000000\n"
+        "0220F00000000\n013CF00004400\n"
         "0130F00000004\n0500000000000\n0220F00000000\n0100F11111111\n"
         "0310F22222222\n0128F00000004\n0320F33333333\n0400000000000\n"
-        "0124F00000008\n0128F0000000C\n0130F00000010\n0320F44444444\n"
-        "0120F55555555\n0138F0000DF1F\n";
+        "0124F00004000\n0128F0000000C\n0130F00000010\n0320F44444444\n"
+        "0120F55555555\n0138F0000DF1F\n0338F00001F1F\n0400000000000\n";
 
     attack("nothing kept", text, sizeof text - 1);
 }

@@ -1,9 +1,10 @@
 /* fields.c: log lines cut by the places that include/s5933.h has. It is
  * compiled as C and as C++.
  *
- *   fields < LOG    each line's code, address, data, enables, interrupt line
- *                   and label, with | between them; exit status 1 if a field
- *                   is no number, or a byte is read as another digit */
+ *   fields < LOG    each line's code, address, data, enables, interrupt
+ *                   line, Add-On interrupt line and label, with | between
+ *                   them; exit status 1 if a field is no number, or a byte
+ *                   is read as another digit */
 #include "s5933.h"
 
 #include <stdio.h>
@@ -45,6 +46,8 @@ static int show_fields(const char *text)
     wrong += show(line, S5933_DATA_AT, S5933_DATA_DIGITS);
     wrong += show(line, S5933_ENABLES_AT, S5933_ENABLES_DIGITS);
     wrong += show(line, S5933_INTERRUPT_AT, S5933_INTERRUPT_DIGITS);
+    wrong += show(line, S5933_ADDON_INTERRUPT_AT,
+                  S5933_ADDON_INTERRUPT_DIGITS);
     fputs(text + S5933_LABEL_AT, stdout);
     return wrong;
 }

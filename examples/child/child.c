@@ -34,7 +34,7 @@ struct child {
 };
 
 struct answer {
-    uint32_t code, address, data, enables, line;
+    uint32_t code, address, data, enables, line, addon_line;
 };
 
 static void complain(const char *what, const char *why)
@@ -166,7 +166,9 @@ static bool read_answer(const uint8_t *line, size_t n, struct answer *a)
         && read_field(line, S5933_ENABLES_AT, S5933_ENABLES_DIGITS,
                       &a->enables)
         && read_field(line, S5933_INTERRUPT_AT, S5933_INTERRUPT_DIGITS,
-                      &a->line);
+                      &a->line)
+        && read_field(line, S5933_ADDON_INTERRUPT_AT,
+                      S5933_ADDON_INTERRUPT_DIGITS, &a->addon_line);
 }
 
 /*
@@ -192,8 +194,8 @@ static bool ask(struct child *c, const char *frame, size_t n,
 static bool show(size_t frame, const struct answer *a)
 {
     return printf("%7zu %5" PRIu32 "  %08" PRIX32 "  %08" PRIX32 " %8" PRIX32
-                  " %5" PRIu32 "\n", frame, a->code, a->address, a->data,
-                  a->enables, a->line) > 0
+                  " %5" PRIu32 " %7" PRIu32 "\n", frame, a->code, a->address,
+                  a->data, a->enables, a->line, a->addon_line) > 0
         && fflush(stdout) == 0;
 }
 
@@ -206,7 +208,7 @@ static bool run(struct child *c, const char *set)
     struct answer a;
     bool good = send_line(c, set, strlen(set));
 
-    puts("  frame  code   address      data  enables  line");
+    puts("  frame  code   address      data  enables  line  Add-On");
     while (good && (n = getline(&frame, &room, stdin)) > 0) {
         n -= frame[n - 1] == '\n';
         good = ask(c, frame, (size_t)n, &a);

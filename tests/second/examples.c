@@ -53,6 +53,10 @@ static void registers(void)
     pci_write(0x38, 0xFFFFFFFF);
     expect(2, pci_read(0x38), 0x0000DF1F);
     from_reset();
+    step(ADDON_WRITE, 0x38, 15, 0xFFFFFFFF);
+    expect(2, step(ADDON_READ, 0x38, 15, 0).data, 0x0000DF1F);
+    expect(2, pci_read(0x38), 0);
+    from_reset();
     pci_write(0x3C, 0x0000FFFF);
     expect(3, pci_read(0x3C), 0x0000F7E6);
     from_reset();
@@ -86,6 +90,12 @@ static void mailbox(void)
     expect(6, pci_read(0x34), 0);
 }
 
+/* Both lines, the driver's before the card's. */
+static uint32_t lines(struct answer a)
+{
+    return a.line << 1 | a.addon_line;
+}
+
 static void write_cycles(void)
 {
     from_reset();
@@ -103,6 +113,19 @@ static void write_cycles(void)
     expect(7, pci_read(0x24), 0x108);
     expect(7, pci_read(0x38), 0x00040000);
     expect(8, step(WRITE_CYCLE, 0, 0, 0).code, COUNT_IS_ZERO);
+}
+
+/* The same as the card sees it: its flag is set too, and each side has to
+ * enable it for its own line. */
+static void write_cycles_for_the_card(void)
+{
+    expect(7, step(ADDON_READ, 0x38, 15, 0).data, 0x00040000);
+    expect(7, lines(step(ADDON_WRITE, 0x38, 2, 0x4000)), 1);
+    expect(7, step(ADDON_READ, 0x38, 15, 0).data, 0x00844000);
+    expect(7, lines(step(PCI_WRITE, 0x38, 2, 0x4000)), 3);
+    expect(7, lines(step(ADDON_WRITE, 0x38, 4, 0x00040000)), 2);
+    pci_write(0x28, 0);
+    expect(7, step(ADDON_READ, 0x38, 15, 0).data, 0x00004000);
 }
 
 /* Sets up count 4 and a word held at the address. */
@@ -126,6 +149,17 @@ static void edge_of_memory(void)
     expect(9, step(WRITE_CYCLE, 0, 0, 0).code, NO_MEMORY_THERE);
 }
 
+/* The same once more: the card's abort bit stands until the card clears
+ * it, whatever the driver does to its own. */
+static void edge_for_the_card(void)
+{
+    one_word_at(0x4000);
+    expect(9, lines(step(WRITE_CYCLE, 0, 0, 0)), 3);
+    expect(9, lines(step(PCI_WRITE, 0x38, 15, 0x00100000)), 1);
+    expect(9, step(ADDON_READ, 0x38, 15, 0).data, 0x00A00000);
+    expect(9, lines(step(ADDON_WRITE, 0x38, 15, 0x00200000)), 0);
+}
+
 static void threshold(void)
 {
     from_reset();
@@ -145,7 +179,9 @@ int main(void)
     eight_words(ADDON_WRITE, PCI_READ);
     mailbox();
     write_cycles();
+    write_cycles_for_the_card();
     edge_of_memory();
+    edge_for_the_card();
     threshold();
     printf("examples: %d failures\n", failures);
     return failures == 0 ? 0 : 1;

@@ -146,6 +146,23 @@ static void pci_write(struct generator *g, uint32_t place, uint32_t data)
     frame(g, PCI_WRITE, 4 * place, 15, data);
 }
 
+/* A side's own interrupt register, or control register. */
+static void own_read(struct generator *g, bool card, uint32_t place)
+{
+    frame(g, card ? ADDON_READ : PCI_READ, 4 * place, 15, 0);
+}
+
+static void own_write(struct generator *g, bool card, uint32_t place,
+                      uint32_t enables, uint32_t data)
+{
+    frame(g, card ? ADDON_WRITE : PCI_WRITE, 4 * place, enables, data);
+}
+
+static uint32_t own_bits(const struct generator *g, bool card)
+{
+    return card ? g->chip.aint : g->chip.intcsr;
+}
+
 /* Reads every register that shows state without changing it. */
 static void look(struct generator *g)
 {
@@ -155,7 +172,8 @@ static void look(struct generator *g)
         frame(g, ADDON_READ, 4 * place, 15, 0);
     for (uint32_t place = WRITE_ADDRESS; place < REGISTERS; place++)
         frame(g, PCI_READ, 4 * place, 15, 0);
-    frame(g, ADDON_READ, 4 * MAIL_STATUS, 15, 0);
+    for (uint32_t place = MAIL_STATUS; place < REGISTERS; place++)
+        frame(g, ADDON_READ, 4 * place, 15, 0);
 }
 
 /* Reads all registers of both sides, with what that changes. */
@@ -226,60 +244,84 @@ static void mail_traffic(struct generator *g)
     }
 }
 
-/* Clears flags with written ones: the right ones, others, or too few bytes. */
-static void clear_flags(struct generator *g)
+/* Clears flags of one register with written ones: the right ones, others,
+ * or too few bytes. */
+static void clear_own_flags(struct generator *g, bool card)
 {
-    uint32_t kept = g->chip.intcsr & 0xFFFF;
+    uint32_t kept = own_bits(g, card) & 0xFFFF;
     uint32_t ones = one_in(g, 3) ? random32(g) & 0x003F0000
-                                 : g->chip.intcsr & 0x003F0000;
+                                 : own_bits(g, card) & 0x003F0000;
+    uint32_t enables = one_in(g, 4) ? below(g, 16) : 15;
 
-    frame(g, PCI_WRITE, 0x38, one_in(g, 4) ? below(g, 16) : 15,
-          ones | kept);
-    frame(g, PCI_READ, 0x38, 15, 0);
+    own_write(g, card, INTCSR, enables, ones | kept);
+    own_read(g, card, INTCSR);
 }
 
-/* Chooses a byte for one event, mostly makes it ready to change over, then
- * touches it, or one beside it. */
+static void clear_flags(struct generator *g)
+{
+    clear_own_flags(g, false);
+    if (one_in(g, 2))
+        clear_own_flags(g, true);
+}
+
+/* What changes a mark of a half: the write that fills, the read that
+ * empties. */
+static void fill(struct generator *g, bool incoming, uint32_t box,
+                 uint32_t enables)
+{
+    write_frame(g, incoming ? ADDON_WRITE : PCI_WRITE,
+                (incoming ? 0x10 : 0) + 4 * box, enables);
+}
+
+static void fetch(struct generator *g, bool incoming, uint32_t box,
+                  uint32_t enables)
+{
+    read_frame(g, incoming ? PCI_READ : ADDON_READ,
+               (incoming ? 0x10 : 0) + 4 * box, enables);
+}
+
+/* One side chooses a byte for one event; it is mostly made ready to change
+ * over, then touched, or one beside it. The driver waits for fetches of
+ * outgoing bytes, the card for those of incoming ones. */
 static void mail_event(struct generator *g)
 {
     uint32_t turn = (uint32_t)(g->turn++);
     bool incoming = turn % 2 != 0;
     uint32_t choice = turn / 2 % 16;
+    bool card = turn / 32 % 2 != 0;
     uint32_t on = one_in(g, 4) ? 0 : 0x10;
     uint32_t byte = one_in(g, 4) ? below(g, 4) : choice % 4;
     uint32_t box = one_in(g, 4) ? below(g, 4) : choice / 4;
     uint32_t enables = one_in(g, 3) ? below(g, 16) : UINT32_C(1) << byte;
     uint32_t bits = on | choice;
     uint32_t other = random32(g) & 0x1F;
+    bool waits_for_fetch = incoming == card;
 
-    pci_write(g, INTCSR, incoming ? bits << 8 | other : other << 8 | bits);
-    if (!one_in(g, 3)) {
-        if (incoming)
-            read_frame(g, PCI_READ, 0x10 + 4 * box, enables);
-        else
-            write_frame(g, PCI_WRITE, 4 * box, enables);
-    }
-    if (incoming)
-        write_frame(g, ADDON_WRITE, 0x10 + 4 * box, enables);
-    else
-        frame(g, ADDON_READ, 4 * box, enables, 0);
-    frame(g, PCI_READ, 0x38, 15, 0);
+    own_write(g, card, INTCSR, 15,
+              incoming ? bits << 8 | other : other << 8 | bits);
+    if (!one_in(g, 3))
+        (waits_for_fetch ? fill : fetch)(g, incoming, box, enables);
+    (waits_for_fetch ? fetch : fill)(g, incoming, box, enables);
+    own_read(g, card, INTCSR);
     if (one_in(g, 3))
-        frame(g, PCI_WRITE, 0x38, 3, random32(g) & 0x1F1F);
+        own_write(g, card, INTCSR, 3, random32(g) & 0x1F1F);
     if (one_in(g, 2))
-        clear_flags(g);
+        clear_own_flags(g, card);
 }
 
 static void mailboxes_move(struct generator *g)
 {
+    bool card;
+
     switch (below(g, 8)) {
     case 0:
     case 1:
         mail_event(g);
         break;
     case 2:
+        card = one_in(g, 2);
         if (one_in(g, 6))
-            frame(g, PCI_WRITE, 0x3C, some_enables(g), 0x08000000);
+            own_write(g, card, MCSR, some_enables(g), 0x08000000);
         frame(g, PCI_READ, 0x34, 15, 0);
         break;
     case 3:
@@ -294,9 +336,9 @@ static void mailboxes_move(struct generator *g)
 
 /* ---- polls ---- */
 
-/* The driver chooses a byte of each half, mostly with both events on and no
+/* A side chooses a byte of each half, mostly with both events on and no
  * flag left. */
-static void choose_bytes(struct generator *g)
+static void choose_bytes(struct generator *g, bool card)
 {
     uint32_t bits = random32(g) & 0x0F0F;
 
@@ -306,14 +348,17 @@ static void choose_bytes(struct generator *g)
         bits |= 0x1000;
     if (!one_in(g, 6))
         bits |= 0x003F0000;
-    pci_write(g, INTCSR, bits);
+    if (one_in(g, 4))
+        bits |= random32(g) & 0xC000;
+    own_write(g, card, INTCSR, 15, bits);
 }
 
-/* An access to a half's chosen mailbox: mostly the chosen byte, alone or
- * with others, else any bytes. */
+/* An access to the mailbox that a side has chosen of a half: mostly the
+ * chosen byte, alone or with others, else any bytes. */
 static void touch_chosen(struct generator *g, uint32_t kind, bool incoming)
 {
-    uint32_t choice = g->chip.intcsr >> (incoming ? 8 : 0) & 15;
+    bool card = one_in(g, 2);
+    uint32_t choice = own_bits(g, card) >> (incoming ? 8 : 0) & 15;
     uint32_t offset = (incoming ? 0x10 : 0) + choice / 4 * 4;
     uint32_t enables = one_in(g, 2) ? below(g, 16) : 0;
 
@@ -322,20 +367,23 @@ static void touch_chosen(struct generator *g, uint32_t kind, bool incoming)
     write_frame(g, kind, offset, enables);
 }
 
-/* The driver looks at the flags and mostly clears them. */
-static void take_flags(struct generator *g)
+/* A side looks at its flags and mostly clears them. */
+static void take_flags(struct generator *g, bool card)
 {
-    frame(g, PCI_READ, 0x38, 15, 0);
+    own_read(g, card, INTCSR);
     if (!one_in(g, 4))
-        frame(g, PCI_WRITE, 0x38, 4, 0x003F0000);
+        own_write(g, card, INTCSR, 4, 0x003F0000);
 }
 
 /* All marks emptied while some may be set; sometimes byte 3 is missing. */
 static void clear_marks(struct generator *g)
 {
-    frame(g, PCI_WRITE, 0x3C, one_in(g, 4) ? below(g, 16) : 8,
-          0x08000000 | (g->chip.mcsr & 0xFF00));
-    frame(g, PCI_READ, 0x38, 15, 0);
+    bool card = one_in(g, 2);
+    uint32_t enables = one_in(g, 4) ? below(g, 16) : 8;
+
+    own_write(g, card, MCSR, enables,
+              0x08000000 | (g->chip.mcsr & 0xFF00));
+    own_read(g, card, INTCSR);
 }
 
 /* The card asks again and again for a message that comes once, and writes
@@ -377,11 +425,14 @@ static void poll_once(struct generator *g)
 
 static void polls_move(struct generator *g)
 {
-    choose_bytes(g);
+    choose_bytes(g, false);
+    choose_bytes(g, true);
     for (uint32_t n = 4 + below(g, 20); n > 0; n--) {
         poll_once(g);
         if (one_in(g, 3))
-            take_flags(g);
+            take_flags(g, false);
+        if (one_in(g, 3))
+            take_flags(g, true);
     }
     if (one_in(g, 8))
         look(g);
@@ -409,6 +460,13 @@ static void some_port(struct generator *g)
         port_read(g, one_in(g, 2), enables);
 }
 
+/* Both control registers, which show both FIFOs. */
+static void look_at_fifos(struct generator *g)
+{
+    own_read(g, false, MCSR);
+    own_read(g, true, AGCSTS);
+}
+
 /* Writes until the FIFO is full, and once or more beyond. */
 static void drive_full(struct generator *g, bool pci)
 {
@@ -417,13 +475,13 @@ static void drive_full(struct generator *g, bool pci)
     while (f->fill < FIFO_WORDS && g->left > 0) {
         port_write(g, pci, 15);
         if (one_in(g, 3))
-            frame(g, PCI_READ, 0x3C, 15, 0);
+            own_read(g, one_in(g, 2), MCSR);
         if (one_in(g, 10))
             port_read(g, !pci, 15);
     }
     for (uint32_t n = 1 + below(g, 2); n > 0; n--)
         port_write(g, pci, one_in(g, 6) ? below(g, 16) : 15);
-    frame(g, PCI_READ, 0x3C, 15, 0);
+    look_at_fifos(g);
 }
 
 /* Reads until the FIFO is empty, and once or more beyond. */
@@ -434,40 +492,44 @@ static void drive_empty(struct generator *g, bool pci)
     while (f->fill > 0 && g->left > 0) {
         port_read(g, pci, 15);
         if (one_in(g, 3))
-            frame(g, PCI_READ, 0x3C, 15, 0);
+            own_read(g, one_in(g, 2), MCSR);
         if (one_in(g, 10))
             port_write(g, !pci, 15);
     }
     for (uint32_t n = 1 + below(g, 2); n > 0; n--)
         port_read(g, pci, one_in(g, 6) ? below(g, 16) : 15);
-    frame(g, PCI_READ, 0x3C, 15, 0);
+    look_at_fifos(g);
 }
 
-/* MCSR bits 25 to 27 as written ones, sometimes without byte 3. */
-static void clear_by_mcsr(struct generator *g)
+/* Bits 25 to 27 of MCSR or AGCSTS as written ones, sometimes without byte
+ * 3. */
+static void clear_parts(struct generator *g)
 {
+    bool card = one_in(g, 2);
     uint32_t ones = below(g, 8) << 25;
     uint32_t enables = one_in(g, 4) ? below(g, 16) : 8 + below(g, 8);
 
-    frame(g, PCI_WRITE, 0x3C, enables, ones | (g->chip.mcsr & 0xFF00));
-    frame(g, PCI_READ, 0x3C, 15, 0);
+    own_write(g, card, MCSR, enables, ones | (g->chip.mcsr & 0xFF00));
+    look_at_fifos(g);
 }
 
 static void fifos_move(struct generator *g)
 {
+    bool pci = one_in(g, 2);
+
     switch (below(g, 8)) {
     case 0:
-        drive_full(g, one_in(g, 2));
+        drive_full(g, pci);
         break;
     case 1:
-        drive_empty(g, one_in(g, 2));
+        drive_empty(g, pci);
         break;
     case 2:
         if (one_in(g, 3))
-            clear_by_mcsr(g);
+            clear_parts(g);
         break;
     case 3:
-        frame(g, PCI_READ, 0x3C, some_enables(g), 0);
+        read_frame(g, pci ? PCI_READ : ADDON_READ, 0x3C, some_enables(g));
         break;
     default:
         for (uint32_t n = 1 + below(g, 8); n > 0; n--)
@@ -536,6 +598,17 @@ static void set_up_inside(struct generator *g, bool write, uint32_t most)
     set_up(g, write, address, 1 + below(g, most));
 }
 
+/* A count that is written zero, as no cycle brings it there; both sides
+ * would be told of a cycle. */
+static void write_count_zero(struct generator *g, bool write)
+{
+    own_write(g, true, AINT, 15, 0x002FC000);
+    pci_write(g, INTCSR, 0x003FC000);
+    pci_write(g, write ? WRITE_COUNT : READ_COUNT, 1 + below(g, 40));
+    pci_write(g, write ? WRITE_COUNT : READ_COUNT, 0);
+    own_read(g, one_in(g, 2), INTCSR);
+}
+
 static void cycle(struct generator *g, bool write)
 {
     plain_frame(g, write ? WRITE_CYCLE : READ_CYCLE);
@@ -546,8 +619,10 @@ static void look_at_transfer(struct generator *g, bool write)
 {
     frame(g, PCI_READ, write ? 0x24 : 0x2C, 15, 0);
     frame(g, PCI_READ, write ? 0x28 : 0x30, 15, 0);
-    frame(g, PCI_READ, 0x38, 15, 0);
-    frame(g, PCI_READ, 0x3C, 15, 0);
+    own_read(g, false, INTCSR);
+    if (one_in(g, 3))
+        own_read(g, true, AINT);
+    look_at_fifos(g);
 }
 
 /* Feeds the Add-On-to-PCI FIFO and makes write cycles, more of either. */
@@ -606,18 +681,23 @@ static void transfers_move(struct generator *g)
         pci_write(g, MCSR, some_mcsr(g));
     if (!one_in(g, 8))
         pci_write(g, INTCSR, 0x00300000 | (random32(g) & 0x000FDF1F));
+    if (!one_in(g, 3))
+        own_write(g, true, AINT, one_in(g, 4) ? below(g, 16) : 15,
+                  0x00200000 | (random32(g) & 0x000FDF1F));
     if (!one_in(g, 8))
         set_up(g, write, address, some_count(g));
     if (write)
         write_run(g);
     else
         read_run(g);
+    if (one_in(g, 6))
+        write_count_zero(g, write);
     if (write && one_in(g, 2))
         read_back(g, address);
     if (one_in(g, 2))
         clear_flags(g);
     if (one_in(g, 8))
-        clear_by_mcsr(g);
+        clear_parts(g);
 }
 
 /* ---- aborts ---- */
@@ -639,6 +719,8 @@ static void other_flags(struct generator *g)
     uint32_t enables = random32(g) & 0xC000;
 
     pci_write(g, INTCSR, 0x1010 | enables);
+    if (one_in(g, 2))
+        own_write(g, true, AINT, 15, random32(g) & 0x000FDF1F);
     if (one_in(g, 2)) {
         write_frame(g, PCI_WRITE, 0, 1);
         frame(g, ADDON_READ, 0, 1, 0);
@@ -658,13 +740,19 @@ static void other_flags(struct generator *g)
     }
 }
 
-/* Clears bit 20 surely. */
+/* Clears INTCSR's bit 20 surely, and sometimes AINT's 21, before or after:
+ * as long as that stands, cycles go on. */
 static void clear_abort(struct generator *g)
 {
     uint32_t enables = below(g, 16) | 4;
+    uint32_t turn = below(g, 4);
 
+    if (turn == 0)
+        own_write(g, true, AINT, enables, 0x00200000 | g->chip.aint);
     frame(g, PCI_WRITE, 0x38, enables,
           0x00100000 | (random32(g) & 0xFFFFDF1F));
+    if (turn == 1)
+        own_write(g, true, AINT, 4, 0x00200000);
 }
 
 static void aborts_move(struct generator *g)
@@ -683,6 +771,8 @@ static void aborts_move(struct generator *g)
     for (uint32_t n = 1 + below(g, 3); n > 0; n--) {
         cycle(g, write);
         frame(g, PCI_READ, 0x38, 15, 0);
+        if (one_in(g, 2))
+            own_read(g, true, AINT);
         cycle(g, one_in(g, 4) ? !write : write);
         if (one_in(g, 3))
             clear_flags(g);
@@ -695,6 +785,85 @@ static void aborts_move(struct generator *g)
         set_up_inside(g, write, 40);
     cycle(g, write);
     look_at_transfer(g, write);
+}
+
+/* ---- firmware ---- */
+
+/* The driver's side of it: messages, words and cycles, some of them where
+ * there is no memory. */
+static void driver_does(struct generator *g)
+{
+    bool write = one_in(g, 2);
+    uint32_t address = outside(g), count = 1 + below(g, 8);
+
+    switch (below(g, 6)) {
+    case 0:
+    case 1:
+        touch_chosen(g, PCI_WRITE, false);
+        break;
+    case 2:
+        touch_chosen(g, PCI_READ, true);
+        break;
+    case 3:
+        port_write(g, true, 15);
+        break;
+    case 4:
+        port_read(g, true, 15);
+        break;
+    default:
+        pci_write(g, MCSR, 0x4400);
+        set_up(g, write, one_in(g, 2) ? address : 0x100, count);
+        cycle(g, write);
+        cycle(g, one_in(g, 4) ? !write : write);
+        if (!one_in(g, 3))
+            frame(g, PCI_WRITE, 0x38, 4, 0x00300000);
+    }
+}
+
+/* The card's: it asks its own registers why it was called, and answers. */
+static void card_does(struct generator *g)
+{
+    uint32_t offset = one_in(g, 2) ? 0x38 : 0x3C;
+
+    read_frame(g, ADDON_READ, 0x38, some_enables(g));
+    switch (below(g, 6)) {
+    case 0:
+        touch_chosen(g, ADDON_READ, false);
+        break;
+    case 1:
+        touch_chosen(g, ADDON_WRITE, true);
+        break;
+    case 2:
+        port_read(g, false, 15);
+        break;
+    case 3:
+        port_write(g, false, 15);
+        break;
+    case 4:
+        clear_parts(g);
+        break;
+    default:
+        write_frame(g, ADDON_WRITE, offset, some_enables(g));
+    }
+    read_frame(g, ADDON_READ, 0x3C, some_enables(g));
+    if (!one_in(g, 3))
+        clear_own_flags(g, true);
+}
+
+static void firmware_move(struct generator *g)
+{
+    choose_bytes(g, true);
+    if (one_in(g, 3))
+        choose_bytes(g, false);
+    for (uint32_t n = 2 + below(g, 16); n > 0; n--) {
+        driver_does(g);
+        if (!one_in(g, 3))
+            card_does(g);
+    }
+    if (one_in(g, 8))
+        plain_frame(g, CHIP_RESET);
+    if (one_in(g, 4))
+        look(g);
 }
 
 /* ---- unknown ---- */
@@ -971,7 +1140,7 @@ static void resets_move(struct generator *g)
 {
     static move *const moves[] = {
         registers_move, mailboxes_move, fifos_move, transfers_move,
-        aborts_move, unknown_move, polls_move, fifos_move
+        aborts_move, unknown_move, polls_move, firmware_move
     };
 
     for (uint32_t n = 1 + below(g, 3); n > 0; n--)
@@ -981,7 +1150,7 @@ static void resets_move(struct generator *g)
     if (one_in(g, 2))
         plain_frame(g, CHIP_RESET);
     else
-        clear_by_mcsr(g);
+        clear_parts(g);
     if (one_in(g, 2))
         look(g);
     else
@@ -993,7 +1162,7 @@ static void all_move(struct generator *g)
 {
     static move *const moves[] = {
         registers_move, mailboxes_move, polls_move, fifos_move,
-        fifos_move, transfers_move, transfers_move, transfers_move,
+        fifos_move, transfers_move, transfers_move, firmware_move,
         aborts_move, unknown_move, broken_move, resets_move
     };
     move *chosen = moves[below(g, 12)];
@@ -1014,7 +1183,8 @@ static const struct {
     { "fifos", fifos_move }, { "transfers", transfers_move },
     { "aborts", aborts_move }, { "unknown", unknown_move },
     { "broken", broken_move }, { "resets", resets_move },
-    { "all", all_move }, { "polls", polls_move }, { "sets", broken_move }
+    { "all", all_move }, { "polls", polls_move },
+    { "firmware", firmware_move }, { "sets", broken_move }
 };
 
 enum { PROFILES = sizeof profiles / sizeof profiles[0],

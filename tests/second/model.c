@@ -1,4 +1,4 @@
-/* model.c: the controller of document 01.
+/* model.c: the controller of documents 01 and 02.
  * Part of the second program, written from documents 01 and 02 alone. */
 #include "model.h"
 
@@ -12,6 +12,8 @@
 #define INTCSR_FLAGS UINT32_C(0x003F0000)   /* cleared by written ones */
 #define INTCSR_ABORT UINT32_C(0x00300000)   /* bits 20 and 21 */
 #define MCSR_KEPT    UINT32_C(0x0000F700)
+#define AINT_KEPT    UINT32_C(0x0000DF1F)
+#define AINT_FLAGS   UINT32_C(0x002F0000)   /* the same; 20 is not there */
 
 const char *const model_label[SETS][CODES] = {
     [ENGLISH] = {
@@ -52,13 +54,24 @@ uint32_t model_line(const struct controller *c)
     return (events | r >> 20 | r >> 21) & 1;
 }
 
+/* AINT has the same four events, and one abort bit. */
+uint32_t model_addon_line(const struct controller *c)
+{
+    uint32_t a = c->aint;
+    uint32_t events = (a >> 16 & a >> 4) | (a >> 17 & a >> 12)
+                    | (a >> 18 & a >> 14) | (a >> 19 & a >> 15);
+
+    return (events | a >> 21) & 1;
+}
+
 static bool state_in_form(const struct controller *c)
 {
     return c->to_addon.fill <= FIFO_WORDS && c->to_pci.fill <= FIFO_WORDS
         && ((c->write_address | c->read_address) & ~ADDRESS_KEPT) == 0
         && ((c->write_count | c->read_count) & ~COUNT_KEPT) == 0
         && (c->intcsr & ~(INTCSR_KEPT | INTCSR_FLAGS)) == 0
-        && (c->mcsr & ~MCSR_KEPT) == 0;
+        && (c->mcsr & ~MCSR_KEPT) == 0
+        && (c->aint & ~(AINT_KEPT | AINT_FLAGS)) == 0;
 }
 
 static bool window_in_form(const struct window *w)
@@ -70,7 +83,8 @@ static struct answer answer_of(const struct controller *c, uint32_t code,
                                uint32_t data)
 {
     return (struct answer){ .code = code, .data = data,
-                            .line = model_line(c) };
+                            .line = model_line(c),
+                            .addon_line = model_addon_line(c) };
 }
 
 /* The caller sees to it that there is room. */
@@ -101,56 +115,103 @@ static uint32_t intcsr_read(const struct controller *c)
     return c->intcsr | model_line(c) << 23;
 }
 
+static uint32_t aint_read(const struct controller *c)
+{
+    return c->aint | model_addon_line(c) << 23;
+}
+
+/* Three bits of each FIFO: empty; of the one towards PCI four words or
+ * more held, of the other room for four or more; full. */
+
+static uint32_t to_pci_status(const struct controller *c)
+{
+    uint32_t held = c->to_pci.fill;
+
+    return (uint32_t)(held == 0) << 2
+         | (uint32_t)(held >= 4) << 1
+         | (uint32_t)(held == FIFO_WORDS);
+}
+
+static uint32_t to_addon_status(const struct controller *c)
+{
+    uint32_t room = FIFO_WORDS - c->to_addon.fill;
+
+    return (uint32_t)(room == FIFO_WORDS) << 2
+         | (uint32_t)(room >= 4) << 1
+         | (uint32_t)(room == 0);
+}
+
 static uint32_t mcsr_read(const struct controller *c)
 {
-    uint32_t out = c->to_addon.fill;
-    uint32_t in = c->to_pci.fill;
-
     return c->mcsr
          | (uint32_t)(c->write_count == 0) << 7
          | (uint32_t)(c->read_count == 0) << 6
-         | (uint32_t)(in == 0) << 5
-         | (uint32_t)(in >= 4) << 4
-         | (uint32_t)(in == FIFO_WORDS) << 3
-         | (uint32_t)(out == 0) << 2
-         | (uint32_t)(out <= FIFO_WORDS - 4) << 1
-         | (uint32_t)(out == FIFO_WORDS);
+         | to_pci_status(c) << 3 | to_addon_status(c);
+}
+
+/* The other way round, and nothing held. */
+static uint32_t agcsts_read(const struct controller *c)
+{
+    return to_addon_status(c) << 3 | to_pci_status(c);
 }
 
 /* Bits written as one clear a flag; the kept bits take what is written. */
+
 static void intcsr_write(struct controller *c, uint32_t data, uint32_t mask)
 {
     c->intcsr &= ~(data & mask & INTCSR_FLAGS);
     c->intcsr = merge(c->intcsr, data, mask & INTCSR_KEPT);
 }
 
-/* Both events take the status bits of the bytes that have just changed
- * over, and look for the chosen one among them. */
-
-static void event_emptied(struct controller *c, uint32_t bytes)
+static void aint_write(struct controller *c, uint32_t data, uint32_t mask)
 {
-    if (c->intcsr & BIT(4) && bytes >> (c->intcsr & 15) & 1)
-        c->intcsr |= BIT(16);
+    c->aint &= ~(data & mask & AINT_FLAGS);
+    c->aint = merge(c->aint, data, mask & AINT_KEPT);
 }
 
-static void event_filled(struct controller *c, uint32_t bytes)
+/* Sets the flags of the register that watches for what the other side
+ * does: it takes the status bits that have just changed over, and looks
+ * for its two chosen ones among them, one of each half. */
+static void raise_flags(uint32_t *watching, uint32_t changed)
 {
-    if (c->intcsr & BIT(12) && bytes >> (16 + (c->intcsr >> 8 & 15)) & 1)
-        c->intcsr |= BIT(17);
+    uint32_t r = *watching;
+
+    if (r & BIT(4) && changed >> (r & 15) & 1)
+        *watching |= BIT(16);
+    if (r & BIT(12) && changed >> (16 + (r >> 8 & 15)) & 1)
+        *watching |= BIT(17);
 }
 
 /* Marks emptied here are nobody's message: no event. */
+static void clear_marks(struct controller *c)
+{
+    c->marks = 0;
+}
+
 static void mcsr_write(struct controller *c, uint32_t data, uint32_t mask)
 {
     uint32_t ones = data & mask;
 
     c->mcsr = merge(c->mcsr, data, mask & MCSR_KEPT);
     if (ones & BIT(27))
-        c->marks = 0;
+        clear_marks(c);
     if (ones & BIT(26))
         c->to_pci.fill = 0;
     if (ones & BIT(25))
         c->to_addon.fill = 0;
+}
+
+/* Bits 26 and 25 stand for the other FIFO each than in MCSR. */
+static void agcsts_write(struct controller *c, uint32_t data, uint32_t mask)
+{
+    uint32_t pulses = data & mask;
+
+    if (pulses & BIT(27))
+        clear_marks(c);
+    if (pulses & BIT(26))
+        c->to_addon.fill = 0;
+    if (pulses & BIT(25))
+        c->to_pci.fill = 0;
 }
 
 /* The status bits of the enabled bytes of a mailbox. */
@@ -159,11 +220,25 @@ static uint32_t marks_of(uint32_t place, uint32_t enables)
     return enables << (4 * place);
 }
 
-static void mail_write(struct controller *c, uint32_t place,
-                       uint32_t enables, uint32_t data)
+/* A read by the side that doesn't own the mailbox. */
+static void mail_fetch(struct controller *c, uint32_t *watching,
+                       uint32_t place, uint32_t enables)
 {
+    uint32_t emptied = c->marks & marks_of(place, enables);
+
+    c->marks &= ~emptied;
+    raise_flags(watching, emptied);
+}
+
+/* A write by its owner. */
+static void mail_store(struct controller *c, uint32_t *watching,
+                       uint32_t place, uint32_t enables, uint32_t data)
+{
+    uint32_t filled = marks_of(place, enables) & ~c->marks;
+
     c->mail[place] = merge(c->mail[place], data, enabled_bits[enables]);
     c->marks |= marks_of(place, enables);
+    raise_flags(watching, filled);
 }
 
 static uint32_t pci_read(struct controller *c, uint32_t place,
@@ -180,7 +255,7 @@ static uint32_t pci_read(struct controller *c, uint32_t place,
     case MCSR:          return mcsr_read(c);
     default:
         if (place >= 4)
-            c->marks &= ~marks_of(place, enables);
+            mail_fetch(c, &c->aint, place, enables);
         return c->mail[place];
     }
 }
@@ -212,38 +287,43 @@ static void pci_write(struct controller *c, uint32_t place,
         mcsr_write(c, data, mask);
         break;
     default:
-        mail_write(c, place, enables, data);
+        mail_store(c, &c->aint, place, enables, data);
     }
 }
 
 static uint32_t addon_read(struct controller *c, uint32_t place,
                            uint32_t enables)
 {
-    if (place == FIFO_PORT)
-        return fifo_take(&c->to_addon);
-    if (place == MAIL_STATUS)
-        return c->marks;
-    if (place < 4) {
-        uint32_t emptied = c->marks & marks_of(place, enables);
-
-        c->marks &= ~emptied;
-        event_emptied(c, emptied);
+    switch (place) {
+    case FIFO_PORT:   return fifo_take(&c->to_addon);
+    case MAIL_STATUS: return c->marks;
+    case AINT:        return aint_read(c);
+    case AGCSTS:      return agcsts_read(c);
+    default:
+        if (place < 4)
+            mail_fetch(c, &c->intcsr, place, enables);
+        return c->mail[place];
     }
-    return c->mail[place];
 }
 
 static void addon_write(struct controller *c, uint32_t place,
                         uint32_t enables, uint32_t data)
 {
-    uint32_t filled;
+    uint32_t mask = enabled_bits[enables];
 
-    if (place == FIFO_PORT) {
+    switch (place) {
+    case FIFO_PORT:
         fifo_put(&c->to_pci, data);
-        return;
+        break;
+    case AINT:
+        aint_write(c, data, mask);
+        break;
+    case AGCSTS:
+        agcsts_write(c, data, mask);
+        break;
+    default:
+        mail_store(c, &c->intcsr, place, enables, data);
     }
-    filled = marks_of(place, enables) & ~c->marks;
-    mail_write(c, place, enables, data);
-    event_filled(c, filled);
 }
 
 /* Code 8: the port is written when full or read when empty. */
@@ -279,7 +359,7 @@ static uint32_t access_code(const struct controller *c, const struct step *s)
     return DONE;
 }
 
-/* Of the other registers MCSR alone changes marks, and doesn't show it. */
+/* MCSR and AGCSTS change marks too, and don't show it. */
 static struct answer do_access(struct controller *c, const struct step *s)
 {
     uint32_t code = access_code(c, s);
@@ -365,13 +445,17 @@ static struct answer do_cycle(struct controller *c, const struct window *w,
         }
         *count -= bytes;
         *address += 4;
-        if (*count == 0)
+        if (*count == 0) {
             c->intcsr |= write ? BIT(18) : BIT(19);
+            c->aint |= write ? BIT(18) : BIT(19);
+        }
     } else if (code == NO_MEMORY_THERE) {
         a.address = *address;
         c->intcsr |= BIT(20);
+        c->aint |= BIT(21);
     }
     a.line = model_line(c);
+    a.addon_line = model_addon_line(c);
     return a;
 }
 

@@ -1,4 +1,4 @@
-/* model.h: the controller of document 01.
+/* model.h: the controller of documents 01 and 02.
  * Part of the second program, written from documents 01 and 02 alone. */
 #ifndef MODEL_H
 #define MODEL_H
@@ -24,10 +24,12 @@ enum {
 /* Sets of labels, by their numbers; every number from SETS on is unknown. */
 enum { ENGLISH, GERMAN, SETS };
 
-/* Registers by place: offset divided by 4. */
+/* Registers by place: offset divided by 4. Two places have one register
+ * on the PCI side and another on the Add-On side. */
 enum {
     FIFO_PORT = 8, WRITE_ADDRESS, WRITE_COUNT, READ_ADDRESS, READ_COUNT,
-    MAIL_STATUS, INTCSR, MCSR, REGISTERS
+    MAIL_STATUS, INTCSR, MCSR, REGISTERS,
+    AINT = INTCSR, AGCSTS = MCSR
 };
 
 enum { FIFO_WORDS = 8, MAILBOXES = 8, WINDOW_WORDS_MAX = 16384 };
@@ -36,7 +38,7 @@ enum { FIFO_WORDS = 8, MAILBOXES = 8, WINDOW_WORDS_MAX = 16384 };
  * the side may only read. */
 #define PCI_TABLE      0xFFFFu
 #define PCI_READ_ONLY  0x20F0u
-#define ADDON_TABLE    0x21FFu
+#define ADDON_TABLE    0xE1FFu
 #define ADDON_READ_ONLY 0x200Fu
 
 struct fifo {
@@ -53,6 +55,7 @@ struct controller {
     uint32_t read_address, read_count;
     uint32_t intcsr;            /* bits held, without the line */
     uint32_t mcsr;              /* bits held, without the status */
+    uint32_t aint;              /* bits held, without the Add-On line */
 };
 
 /* Lent host memory; words may be null if count is zero. */
@@ -67,7 +70,7 @@ struct step {
 };
 
 struct answer {
-    uint32_t code, address, data, enables, line;
+    uint32_t code, address, data, enables, line, addon_line;
     uint32_t changed;           /* marks that changed; not in the log */
 };
 
@@ -79,6 +82,9 @@ void model_reset(struct controller *c);
 
 /* The interrupt line of the bits held, 0 or 1. */
 uint32_t model_line(const struct controller *c);
+
+/* The Add-On's interrupt line of the bits held, 0 or 1. */
+uint32_t model_addon_line(const struct controller *c);
 
 /* Makes one step. Gives codes 0 to 13 for any numbers and any state. */
 struct answer model_step(struct controller *c, const struct window *w,

@@ -17,12 +17,15 @@
 
 enum {
     KINDS = CHIP_RESET + 2,     /* the last one: every unknown kind */
-    FRAME_DIGITS = 13, ANSWER_DIGITS = 20, LABEL_AT = 21, LINE_START = 40
+    FRAME_DIGITS = 13, ANSWER_DIGITS = 21, LABEL_AT = 22, LINE_START = 41
 };
 enum { PCI, ADDON, SIDES };
 enum { READ, WRITTEN, REFUSED, USES };
 enum { OUTGOING, INCOMING, HALVES };
-enum { RAISED, NO_CHANGE, BY_DRIVER, EVENT_OFF, CLEARED, AT_RESET, CASES };
+enum { RAISED, NO_CHANGE, BY_ITSELF, EVENT_OFF, CLEARED, AT_RESET, CASES };
+enum { MARKS, TO_ADDON, TO_PCI, PARTS };
+enum { OUT_OF_FIFO, INTO_FIFO, WAYS };      /* of a cycle: kinds 4 and 5 */
+enum { USED_UP, USED_UP_OFF, WRITTEN_ZERO, ENDS };
 
 /* The start of a line and its whole length. */
 struct line {
@@ -36,11 +39,12 @@ struct account {
     uint64_t full, empty;       /* how often it became so */
 };
 
-/* The mailboxes by their own account, as far as events go by it. */
+/* The mailboxes by their own account, as far as events go by it, and the
+ * interrupt register of each side. */
 struct mail_account {
     uint32_t marks;
-    uint32_t intcsr;            /* bits 15 to 0 as last written */
-    uint32_t line;              /* of the answer before */
+    uint32_t chosen[SIDES];     /* bits 15 to 0 as last written */
+    uint32_t line[SIDES];       /* of the answer before */
 };
 
 struct reached {
@@ -49,10 +53,17 @@ struct reached {
     uint64_t pair[KINDS][CODES];
     uint64_t use[SIDES][REGISTERS][USES];
     uint64_t mail_read[16], mail_write[16];
-    uint64_t intcsr_set[32], mcsr_set[8], mcsr_clear[8];
+    uint64_t interrupt_set[SIDES][32];
+    uint64_t status_set[SIDES][8], status_clear[SIDES][8];
     struct account to_addon, to_pci;
     struct mail_account mail;
-    uint64_t event[HALVES][CASES];
+    uint64_t event[SIDES][HALVES][CASES];
+    uint32_t count[WAYS];               /* by their own account */
+    uint64_t end[SIDES][WAYS][ENDS];
+    uint64_t cleared[SIDES][PARTS];     /* while it held something */
+    uint64_t spared[SIDES][PARTS];      /* the same without byte 3 */
+    bool addon_abort;                   /* AINT's, by its own account */
+    uint64_t cycles_beside_abort, line_pair[4];
     unsigned missed;
 };
 
@@ -67,15 +78,48 @@ static const uint32_t possible[KINDS] = {
 };
 
 static const char *const half_name[HALVES] = { "outgoing", "incoming" };
+static const char *const side_name[SIDES] = { "PCI", "Add-On" };
 
-/* What happened to a half's chosen byte, and whether the line rose. */
+/* What happened to the byte that a side has chosen of a half, and whether
+ * that side's line rose. */
 static const char *const event_name[CASES] = {
-    "the card changed its mark, the line rose",
-    "the card left its mark, no rise",
-    "the driver changed its mark, no rise",
-    "the card changed its mark with the event off",
+    "the other side changed its mark, the line rose",
+    "the other side left its mark, no rise",
+    "the side itself changed its mark, no rise",
+    "the other side changed its mark with the event off",
     "full at a clear, no rise",
     "full at a reset"
+};
+
+static const char *const way_name[WAYS] = { "write", "read" };
+
+/* How a count came to zero, and what that side's line did. */
+static const char *const end_name[ENDS] = {
+    "used up by a cycle, the line rose",
+    "used up by a cycle with the enable off, no rise",
+    "written zero, no rise"
+};
+
+static const char *const part_name[PARTS] = {
+    "marks", "PCI-to-Add-On FIFO", "Add-On-to-PCI FIFO"
+};
+
+static const char *const lines_name[4] = {
+    "neither line", "the Add-On line alone", "the PCI line alone",
+    "both lines"
+};
+
+/* The bits of each side's interrupt and control registers that have to be
+ * seen set, and those that must not. Nothing sets bit 21 of INTCSR. */
+static const uint32_t interrupt_need[SIDES] = { 0x009FDF1F, 0x00AFDF1F };
+static const uint32_t interrupt_zero[SIDES] = { 0xFF6020E0, 0xFF5020E0 };
+static const uint32_t status_need[SIDES] = { 0xFF, 0x3F };
+static const uint32_t control_zero[SIDES] = { 0xFFFF0800, 0xFFFFFFC0 };
+
+/* The bit that clears each part, by the side that writes it. */
+static const uint32_t clear_bit[SIDES][PARTS] = {
+    [PCI] = { 1u << 27, 1u << 25, 1u << 26 },
+    [ADDON] = { 1u << 27, 1u << 26, 1u << 25 }
 };
 
 static const uint32_t table_of[SIDES] = { PCI_TABLE, ADDON_TABLE };
@@ -134,7 +178,8 @@ static bool parse_answer(const struct line *l, struct answer *a)
         && digits(l->start + 10, 8, &a->data)
         && digits(l->start + 18, 1, &a->enables)
         && digits(l->start + 19, 1, &a->line)
-        && a->code < CODES;
+        && digits(l->start + 20, 1, &a->addon_line)
+        && a->line <= 1 && a->addon_line <= 1 && a->code < CODES;
 }
 
 /* The first line: a set's number in two digits. */
@@ -166,20 +211,60 @@ static bool set_fill(struct account *f, uint32_t fill)
     return true;
 }
 
+static int side_of(const struct step *s)
+{
+    return s->kind <= PCI_WRITE ? PCI : ADDON;
+}
+
+/* Whether a done step writes this register of its side. */
+static bool writes(const struct step *s, uint32_t place)
+{
+    return (s->kind == PCI_WRITE || s->kind == ADDON_WRITE)
+        && s->offset == 4 * place;
+}
+
+/* Whether a done step has the bit that clears a part. */
+static bool says_clear(const struct step *s, int part)
+{
+    return writes(s, MCSR) && s->data & clear_bit[side_of(s)][part];
+}
+
+static bool clears(const struct step *s, int part)
+{
+    return says_clear(s, part) && s->enables & 8;
+}
+
+static uint32_t held_in(const struct reached *r, int part)
+{
+    return part == MARKS ? r->mail.marks
+         : part == TO_ADDON ? r->to_addon.fill : r->to_pci.fill;
+}
+
+/* Before the accounts take the step up. */
+static void note_clears(struct reached *r, const struct step *s)
+{
+    for (int part = 0; part < PARTS; part++)
+        if (says_clear(s, part) && held_in(r, part) != 0) {
+            if (s->enables & 8)
+                r->cleared[side_of(s)][part]++;
+            else
+                r->spared[side_of(s)][part]++;
+        }
+}
+
 /* Keeps the account of both FIFOs for a step that was done. */
 static bool keep_account(struct reached *r, const struct step *s)
 {
     bool port = s->offset == 4 * FIFO_PORT;
-    uint32_t ones = s->enables & 8 ? s->data : 0;
 
+    if (clears(s, TO_ADDON))
+        set_fill(&r->to_addon, 0);
+    if (clears(s, TO_PCI))
+        set_fill(&r->to_pci, 0);
     switch (s->kind) {
     case PCI_READ:
         return !port || set_fill(&r->to_pci, r->to_pci.fill - 1);
     case PCI_WRITE:
-        if (s->offset == 4 * MCSR && ones & 0x04000000)
-            set_fill(&r->to_pci, 0);
-        if (s->offset == 4 * MCSR && ones & 0x02000000)
-            set_fill(&r->to_addon, 0);
         return !port || set_fill(&r->to_addon, r->to_addon.fill + 1);
     case ADDON_READ:
         return !port || set_fill(&r->to_addon, r->to_addon.fill - 1);
@@ -202,65 +287,117 @@ static uint32_t touched(const struct step *s)
     return s->enables << s->offset;
 }
 
-static bool empties_all(const struct step *s)
-{
-    return s->kind == PCI_WRITE && s->offset == 4 * MCSR
-        && s->enables & 8 && s->data & 0x08000000;
-}
-
 /* The marks that a done step leaves. */
 static uint32_t marks_after(const struct step *s, uint32_t marks)
 {
     uint32_t bytes = touched(s);
 
-    if (s->kind == CHIP_RESET || empties_all(s))
+    if (s->kind == CHIP_RESET || clears(s, MARKS))
         return 0;
     if (s->kind == PCI_WRITE || s->kind == ADDON_WRITE)
         return marks | bytes;
     return marks & ~(bytes & (s->kind == PCI_READ ? 0xFFFF0000 : 0xFFFF));
 }
 
-/* The low half of INTCSR that a done step leaves. */
-static uint32_t intcsr_after(const struct step *s, uint32_t intcsr)
+/* The low half of a side's interrupt register that a done step leaves. */
+static uint32_t chosen_after(const struct step *s, int side, uint32_t bits)
 {
     uint32_t mask = (s->enables & 1 ? 0xFFu : 0)
                   | (s->enables & 2 ? 0xFF00u : 0);
 
     if (s->kind == CHIP_RESET)
         return 0;
-    if (s->kind == PCI_WRITE && s->offset == 4 * INTCSR)
-        return (intcsr & ~mask) | (s->data & mask);
-    return intcsr;
+    if (writes(s, INTCSR) && side_of(s) == side)
+        return (bits & ~mask) | (s->data & mask);
+    return bits;
 }
 
-/* What a done step is to a half's chosen byte; CASES if nothing of these.
- * Where the line was 0 and the event on, its flag was clear, and the line
- * answered tells whether the step set it. */
-static int event_case(const struct reached *r, const struct step *s,
-                      const struct answer *a, int half)
+/* The count of one way that a done step leaves. */
+static uint32_t count_after(const struct step *s, int way, uint32_t count)
 {
-    uint32_t bits = r->mail.intcsr >> 8 * half;
+    uint32_t place = way == OUT_OF_FIFO ? WRITE_COUNT : READ_COUNT;
+    uint32_t mask = 0;
+
+    if (s->kind == CHIP_RESET)
+        return 0;
+    if (s->kind == WRITE_CYCLE + (uint32_t)way)
+        return count - (count < 4 ? count : 4);
+    if (s->kind != PCI_WRITE || s->offset != 4 * place)
+        return count;
+    for (int i = 0; i < 4; i++)
+        if (s->enables >> i & 1)
+            mask |= UINT32_C(0xFF) << 8 * i;
+    return ((count & ~mask) | (s->data & mask)) & 0x03FFFFFF;
+}
+
+/* What a done step is to a count, as a side sees it; ENDS if nothing of
+ * these. The line answered tells, as for events. */
+static int end_case(const struct reached *r, const struct step *s,
+                    const struct answer *a, int side, int way)
+{
+    uint32_t line = side == PCI ? a->line : a->addon_line;
+    bool on = r->mail.chosen[side] >> (14 + way) & 1;
+
+    if (r->mail.line[side] != 0 || s->kind == CHIP_RESET
+        || r->count[way] == 0 || count_after(s, way, r->count[way]) != 0)
+        return ENDS;
+    if (s->kind == PCI_WRITE)
+        return on && line == 0 ? WRITTEN_ZERO : ENDS;
+    return line == (uint32_t)on ? (on ? USED_UP : USED_UP_OFF) : ENDS;
+}
+
+static void note_ends(struct reached *r, const struct step *s,
+                      const struct answer *a)
+{
+    for (int way = 0; way < WAYS; way++) {
+        for (int side = 0; side < SIDES; side++) {
+            int found = end_case(r, s, a, side, way);
+
+            if (found != ENDS)
+                r->end[side][way][found]++;
+        }
+        r->count[way] = count_after(s, way, r->count[way]);
+    }
+}
+
+/* Whether the step is the access that a side waits for in a half: the
+ * driver for the card's, the card for the driver's. */
+static bool waited_for(const struct step *s, int side, int half)
+{
+    if (side == PCI)
+        return s->kind == (half == OUTGOING ? ADDON_READ : ADDON_WRITE);
+    return s->kind == (half == OUTGOING ? PCI_WRITE : PCI_READ);
+}
+
+/* What a done step is to the byte that a side has chosen of a half; CASES
+ * if nothing of these. Where that side's line was 0 and the event on, its
+ * flag was clear, and the line answered tells whether the step set it. */
+static int event_case(const struct reached *r, const struct step *s,
+                      const struct answer *a, int side, int half)
+{
+    uint32_t bits = r->mail.chosen[side] >> 8 * half;
     uint32_t chosen = UINT32_C(1) << (16 * half + (int)(bits & 15));
     uint32_t full = r->mail.marks & chosen;
+    uint32_t line = side == PCI ? a->line : a->addon_line;
     bool changes = (marks_after(s, r->mail.marks) & chosen) != full;
-    bool by_card = s->kind == (half == OUTGOING ? ADDON_READ : ADDON_WRITE);
+    bool by_other = waited_for(s, side, half);
     bool on = bits >> 4 & 1;
 
-    if (r->mail.line != 0)
+    if (r->mail.line[side] != 0)
         return CASES;
     if (s->kind == CHIP_RESET)
         return on && full ? AT_RESET : CASES;
-    if (empties_all(s))
-        return on && full && a->line == 0 ? CLEARED : CASES;
+    if (clears(s, MARKS))
+        return on && full && line == 0 ? CLEARED : CASES;
     if (!(touched(s) & chosen))
         return CASES;
     if (!on)
-        return by_card && changes ? EVENT_OFF : CASES;
-    if (by_card && changes)
-        return a->line == 1 ? RAISED : CASES;
-    if (a->line != 0 || by_card == changes)
+        return by_other && changes ? EVENT_OFF : CASES;
+    if (by_other && changes)
+        return line == 1 ? RAISED : CASES;
+    if (line != 0 || by_other == changes)
         return CASES;
-    return by_card ? NO_CHANGE : BY_DRIVER;
+    return by_other ? NO_CHANGE : BY_ITSELF;
 }
 
 /* A done read of the status has to show the marks of the account. */
@@ -272,30 +409,92 @@ static bool shows_marks(const struct reached *r, const struct step *s,
         || a->data == r->mail.marks;
 }
 
+/* And one of a count the count of the account. */
+static bool shows_count(const struct reached *r, const struct step *s,
+                        const struct answer *a)
+{
+    if (s->kind != PCI_READ || s->enables != 15)
+        return true;
+    return s->offset == 4 * WRITE_COUNT ? a->data == r->count[OUT_OF_FIFO]
+         : s->offset != 4 * READ_COUNT || a->data == r->count[INTO_FIFO];
+}
+
+static uint32_t three_bits(bool empty, bool four, bool full)
+{
+    return (uint32_t)empty << 2 | (uint32_t)four << 1 | (uint32_t)full;
+}
+
+/* The six bits of both control registers that show the fills. */
+static uint32_t status_of(const struct reached *r, int side)
+{
+    uint32_t held = r->to_pci.fill, put = r->to_addon.fill;
+    uint32_t in = three_bits(held == 0, held >= 4, held == FIFO_WORDS);
+    uint32_t out = three_bits(put == 0, put <= 4, put == FIFO_WORDS);
+
+    return side == PCI ? in << 3 | out : out << 3 | in;
+}
+
+/* A done read of a control register has to show the fills of the accounts,
+ * and one of it or of an interrupt register no bit that there isn't. */
+static bool shows_fills(const struct reached *r, const struct step *s,
+                        const struct answer *a)
+{
+    if (s->kind != PCI_READ && s->kind != ADDON_READ)
+        return true;
+    if (s->offset == 4 * INTCSR)
+        return !(a->data & interrupt_zero[side_of(s)]);
+    return s->offset != 4 * MCSR
+        || (!(a->data & control_zero[side_of(s)])
+            && (!(s->enables & 1)
+                || (a->data & 0x3F) == status_of(r, side_of(s))));
+}
+
 static void note_events(struct reached *r, const struct step *s,
                         const struct answer *a)
 {
-    for (int half = 0; half < HALVES; half++) {
-        int found = event_case(r, s, a, half);
+    for (int side = 0; side < SIDES; side++)
+        for (int half = 0; half < HALVES; half++) {
+            int found = event_case(r, s, a, side, half);
 
-        if (found != CASES)
-            r->event[half][found]++;
-    }
+            if (found != CASES)
+                r->event[side][half][found]++;
+        }
     r->mail.marks = marks_after(s, r->mail.marks);
-    r->mail.intcsr = intcsr_after(s, r->mail.intcsr);
+    for (int side = 0; side < SIDES; side++)
+        r->mail.chosen[side] = chosen_after(s, side, r->mail.chosen[side]);
 }
 
-/* The bits of INTCSR and MCSR that a PCI read has shown. */
-static void note_bits(struct reached *r, uint32_t place, uint32_t enables,
-                      uint32_t data)
+/* AINT's abort bit: code 13 sets it, the card or a reset clears it. Cycles
+ * are done beside it. While it stands the Add-On line is 1; false if not. */
+static bool note_abort(struct reached *r, const struct step *s,
+                       const struct answer *a)
+{
+    bool cycle = s->kind == WRITE_CYCLE || s->kind == READ_CYCLE;
+
+    if (r->addon_abort && cycle && a->code == DONE)
+        r->cycles_beside_abort++;
+    if (a->code == NO_MEMORY_THERE)
+        r->addon_abort = true;
+    if (a->code == DONE
+        && (s->kind == CHIP_RESET
+            || (writes(s, AINT) && side_of(s) == ADDON
+                && s->enables & 4 && s->data & 0x00200000)))
+        r->addon_abort = false;
+    r->line_pair[a->line << 1 | a->addon_line]++;
+    return !r->addon_abort || a->addon_line == 1;
+}
+
+/* The bits of the interrupt and control registers that a read has shown. */
+static void note_bits(struct reached *r, int side, uint32_t place,
+                      uint32_t enables, uint32_t data)
 {
     if (place == INTCSR)
         for (int i = 0; i < 32; i++)
-            r->intcsr_set[i] += data >> i & 1;
+            r->interrupt_set[side][i] += data >> i & 1;
     if (place == MCSR && enables & 1)
         for (int i = 0; i < 8; i++) {
-            r->mcsr_set[i] += data >> i & 1;
-            r->mcsr_clear[i] += ~data >> i & 1;
+            r->status_set[side][i] += data >> i & 1;
+            r->status_clear[side][i] += ~data >> i & 1;
         }
 }
 
@@ -303,7 +502,7 @@ static void note_bits(struct reached *r, uint32_t place, uint32_t enables,
 static void note_access(struct reached *r, const struct step *s,
                         const struct answer *a)
 {
-    int side = s->kind <= PCI_WRITE ? PCI : ADDON;
+    int side = side_of(s);
     bool write = s->kind == PCI_WRITE || s->kind == ADDON_WRITE;
     uint32_t place = s->offset / 4;
 
@@ -318,8 +517,8 @@ static void note_access(struct reached *r, const struct step *s,
         r->mail_write[s->enables]++;
     else if (place < MAILBOXES)
         r->mail_read[s->enables]++;
-    if (s->kind == PCI_READ)
-        note_bits(r, place, s->enables, a->data);
+    if (!write)
+        note_bits(r, side, place, s->enables, a->data);
 }
 
 /* One frame line with its log line; false if they don't fit. */
@@ -337,18 +536,25 @@ static bool measure(struct reached *r, const struct line *frame,
         return false;
     if (!good) {
         r->broken++;
-        return true;
+        return a.line == r->mail.line[PCI]
+            && a.addon_line == r->mail.line[ADDON];
     }
     if (!(possible[kind] >> a.code & 1))
         return false;
     r->pair[kind][a.code]++;
     if (s.kind <= ADDON_WRITE)
         note_access(r, &s, &a);
-    if (a.code == DONE)
+    if (a.code == DONE) {
+        note_clears(r, &s);
+        note_ends(r, &s, &a);
         note_events(r, &s, &a);
-    r->mail.line = a.line;
-    return a.code != DONE
-        || (keep_account(r, &s) && shows_marks(r, &s, &a));
+    }
+    r->mail.line[PCI] = a.line;
+    r->mail.line[ADDON] = a.addon_line;
+    return note_abort(r, &s, &a)
+        && (a.code != DONE
+            || (keep_account(r, &s) && shows_marks(r, &s, &a)
+                && shows_fills(r, &s, &a) && shows_count(r, &s, &a)));
 }
 
 static bool measure_files(struct reached *r, FILE *frames, FILE *log)
@@ -383,25 +589,65 @@ static void print_pairs(const struct reached *r)
 
 static void print_registers(const struct reached *r)
 {
-    static const char *const name[SIDES] = { "PCI", "Add-On" };
-
     puts("registers: read, written, write refused as read-only");
     for (int side = 0; side < SIDES; side++)
         for (int i = 0; i < REGISTERS; i++)
             if (table_of[side] >> i & 1)
                 printf("  %-6s %02X %" PRIu64 " %" PRIu64 " %" PRIu64 "\n",
-                       name[side], 4 * i, r->use[side][i][READ],
+                       side_name[side], 4 * i, r->use[side][i][READ],
                        r->use[side][i][WRITTEN],
                        r->use[side][i][REFUSED]);
 }
 
 static void print_events(const struct reached *r)
 {
-    puts("the chosen byte of each half");
-    for (int half = 0; half < HALVES; half++)
-        for (int i = 0; i < CASES; i++)
-            printf("  %s: %s %" PRIu64 "\n", half_name[half],
-                   event_name[i], r->event[half][i]);
+    puts("the byte that each side has chosen of each half");
+    for (int side = 0; side < SIDES; side++)
+        for (int half = 0; half < HALVES; half++)
+            for (int i = 0; i < CASES; i++)
+                printf("  %s, %s: %s %" PRIu64 "\n", side_name[side],
+                       half_name[half], event_name[i],
+                       r->event[side][half][i]);
+}
+
+static void print_ends(const struct reached *r)
+{
+    puts("the counts, as each side sees them");
+    for (int side = 0; side < SIDES; side++)
+        for (int way = 0; way < WAYS; way++)
+            for (int i = 0; i < ENDS; i++)
+                printf("  %s, %s count: %s %" PRIu64 "\n",
+                       side_name[side], way_name[way], end_name[i],
+                       r->end[side][way][i]);
+}
+
+static void print_bits(const struct reached *r)
+{
+    puts("interrupt and control registers: bits seen set");
+    for (int side = 0; side < SIDES; side++)
+        for (int i = 0; i < 24; i++)
+            if (interrupt_need[side] >> i & 1)
+                printf("  %s 38 bit %d %" PRIu64 "\n", side_name[side], i,
+                       r->interrupt_set[side][i]);
+    puts("status bits: seen 0, seen 1");
+    for (int side = 0; side < SIDES; side++)
+        for (int i = 0; i < 8; i++)
+            printf("  %s 3C bit %d %" PRIu64 " %" PRIu64 "\n",
+                   side_name[side], i, r->status_clear[side][i],
+                   r->status_set[side][i]);
+}
+
+static void print_clears(const struct reached *r)
+{
+    puts("cleared while it held something: with byte 3, without it");
+    for (int side = 0; side < SIDES; side++)
+        for (int i = 0; i < PARTS; i++)
+            printf("  %s: %s %" PRIu64 " %" PRIu64 "\n", side_name[side],
+                   part_name[i], r->cleared[side][i], r->spared[side][i]);
+    printf("cycles done beside AINT's abort bit %" PRIu64 "\n",
+           r->cycles_beside_abort);
+    for (int i = 0; i < 4; i++)
+        printf("%s %" PRIu64 "\n", lines_name[i], r->line_pair[i]);
 }
 
 static void print_rest(const struct reached *r)
@@ -414,13 +660,6 @@ static void print_rest(const struct reached *r)
     for (int i = 0; i < 16; i++)
         printf("  %X %" PRIu64 " %" PRIu64 "\n", (unsigned)i,
                r->mail_read[i], r->mail_write[i]);
-    puts("INTCSR bits seen set");
-    for (int i = 16; i < 24; i++)
-        printf("  %d %" PRIu64 "\n", i, r->intcsr_set[i]);
-    puts("MCSR status bits: seen 0, seen 1");
-    for (int i = 0; i < 8; i++)
-        printf("  %d %" PRIu64 " %" PRIu64 "\n", i, r->mcsr_clear[i],
-               r->mcsr_set[i]);
 }
 
 /* ---- what is missing ---- */
@@ -438,14 +677,13 @@ static void need(struct reached *r, uint64_t times, const char *what,
 
 static void need_register(struct reached *r, int side, int place, int use)
 {
-    static const char *const name[SIDES] = { "PCI", "Add-On" };
     static const char *const done[USES] = { "read", "written",
                                             "refused as read-only" };
 
     if (r->use[side][place][use] > 0)
         return;
     printf("%s%s offset %02X %s", r->missed == 0 ? "missed: " : ", ",
-           name[side], 4 * (unsigned)place, done[use]);
+           side_name[side], 4 * (unsigned)place, done[use]);
     r->missed++;
 }
 
@@ -473,14 +711,59 @@ static void need_registers(struct reached *r)
 
 static void need_events(struct reached *r)
 {
-    for (int half = 0; half < HALVES; half++)
-        for (int i = 0; i < CASES; i++)
-            if (r->event[half][i] == 0) {
-                printf("%schosen %s byte: %s",
-                       r->missed == 0 ? "missed: " : ", ", half_name[half],
-                       event_name[i]);
-                r->missed++;
+    for (int side = 0; side < SIDES; side++)
+        for (int half = 0; half < HALVES; half++)
+            for (int i = 0; i < CASES; i++)
+                if (r->event[side][half][i] == 0) {
+                    printf("%s%s, chosen %s byte: %s",
+                           r->missed == 0 ? "missed: " : ", ",
+                           side_name[side], half_name[half], event_name[i]);
+                    r->missed++;
+                }
+}
+
+static void need_ends(struct reached *r)
+{
+    for (int side = 0; side < SIDES; side++)
+        for (int way = 0; way < WAYS; way++)
+            for (int i = 0; i < ENDS; i++)
+                if (r->end[side][way][i] == 0) {
+                    printf("%s%s, %s count: %s",
+                           r->missed == 0 ? "missed: " : ", ",
+                           side_name[side], way_name[way], end_name[i]);
+                    r->missed++;
+                }
+}
+
+static void need_bits(struct reached *r)
+{
+    for (int side = 0; side < SIDES; side++) {
+        for (int i = 0; i < 32; i++)
+            if (interrupt_need[side] >> i & 1)
+                need(r, r->interrupt_set[side][i], side_name[side],
+                     "38 set, bit", i);
+        for (int i = 0; i < 8; i++)
+            if (status_need[side] >> i & 1) {
+                need(r, r->status_clear[side][i], side_name[side],
+                     "3C clear, bit", i);
+                need(r, r->status_set[side][i], side_name[side],
+                     "3C set, bit", i);
             }
+    }
+}
+
+static void need_clears(struct reached *r)
+{
+    for (int side = 0; side < SIDES; side++)
+        for (int i = 0; i < PARTS; i++) {
+            need(r, r->cleared[side][i], part_name[i], "cleared by side",
+                 side);
+            need(r, r->spared[side][i], part_name[i], "spared by side",
+                 side);
+        }
+    need(r, r->cycles_beside_abort, "cycle done beside", "AINT bit", 21);
+    for (int i = 0; i < 4; i++)
+        need(r, r->line_pair[i], lines_name[i], "up, number", i);
 }
 
 static void need_rest(struct reached *r)
@@ -492,12 +775,6 @@ static void need_rest(struct reached *r)
     for (int i = 0; i < 16; i++) {
         need(r, r->mail_read[i], "mailbox read", "enables", i);
         need(r, r->mail_write[i], "mailbox write", "enables", i);
-    }
-    for (int i = 16; i <= 20; i++)
-        need(r, r->intcsr_set[i], "INTCSR", "bit", i);
-    for (int i = 0; i < 8; i++) {
-        need(r, r->mcsr_clear[i], "MCSR clear", "bit", i);
-        need(r, r->mcsr_set[i], "MCSR set", "bit", i);
     }
 }
 
@@ -535,10 +812,16 @@ int main(int argc, char **argv)
     print_pairs(&r);
     print_registers(&r);
     print_events(&r);
+    print_ends(&r);
+    print_bits(&r);
+    print_clears(&r);
     print_rest(&r);
     need_pairs(&r);
     need_registers(&r);
     need_events(&r);
+    need_ends(&r);
+    need_bits(&r);
+    need_clears(&r);
     need_rest(&r);
     puts(r.missed == 0 ? "reached: all" : "");
     return r.missed == 0 ? 0 : 1;

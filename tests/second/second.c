@@ -18,7 +18,7 @@
 
 enum {
     IN_SIZE = 65536, OUT_SIZE = 65536,
-    FRAME_DIGITS = 13, ANSWER_DIGITS = 20,
+    FRAME_DIGITS = 13, ANSWER_DIGITS = 21,
     TAIL_SIZE = 20,     /* the longest of a space, a label and LF */
     LOG_LINE_MAX = ANSWER_DIGITS + TAIL_SIZE,
     MEMORY_WORDS = 4096,
@@ -114,6 +114,7 @@ static bool log_answer(struct run *r, const struct answer *a)
     put_word(to + 2, a->address);
     put_word(to + 10, a->data);
     memcpy(to + 18, byte_digits[a->enables << 4 | a->line], 2);
+    to[20] = byte_digits[a->addon_line][1];
     memcpy(to + ANSWER_DIGITS, tail[a->code], TAIL_SIZE);
     r->used += ANSWER_DIGITS + tail_length[a->code];
     r->lines++;
@@ -155,7 +156,8 @@ static bool log_step(struct run *r, const struct step *s)
 static bool log_broken(struct run *r)
 {
     struct answer a = { .code = NOT_A_FRAME_LINE,
-                        .line = model_line(&r->chip) };
+                        .line = model_line(&r->chip),
+                        .addon_line = model_addon_line(&r->chip) };
 
     return log_answer(r, &a);
 }

@@ -68,7 +68,8 @@ static uint32_t *register_named(struct controller *c, const char *key)
         { "marks", &c->marks },
         { "waddr", &c->write_address }, { "wcount", &c->write_count },
         { "raddr", &c->read_address }, { "rcount", &c->read_count },
-        { "intcsr", &c->intcsr }, { "mcsr", &c->mcsr }
+        { "intcsr", &c->intcsr }, { "mcsr", &c->mcsr },
+        { "aint", &c->aint }
     };
 
     for (size_t i = 0; i < sizeof table / sizeof table[0]; i++)
@@ -169,7 +170,8 @@ static bool same_state(const struct controller *a,
         && a->write_count == b->write_count
         && a->read_address == b->read_address
         && a->read_count == b->read_count
-        && a->intcsr == b->intcsr && a->mcsr == b->mcsr;
+        && a->intcsr == b->intcsr && a->mcsr == b->mcsr
+        && a->aint == b->aint;
 }
 
 static bool memory_as_written(const struct test_case *t)
@@ -191,9 +193,10 @@ static bool case_holds(struct test_case *t)
     struct answer a = model_step(&chip, &t->window, &t->step);
     bool line_same, state_same, memory_same, changed_same;
 
-    snprintf(line, sizeof line, "%02X%08X%08X%X%X %s", (unsigned)a.code,
+    snprintf(line, sizeof line, "%02X%08X%08X%X%X%X %s", (unsigned)a.code,
              (unsigned)a.address, (unsigned)a.data, (unsigned)a.enables,
-             (unsigned)a.line, model_label[ENGLISH][a.code]);
+             (unsigned)a.line, (unsigned)a.addon_line,
+             model_label[ENGLISH][a.code]);
     snprintf(changed, sizeof changed, "%08X", (unsigned)a.changed);
     line_same = strcmp(line, t->field[LOG_LINE]) == 0;
     state_same = same_state(&chip, &t->after);

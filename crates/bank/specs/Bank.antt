@@ -14,4 +14,5 @@ stateIn b mail pci addon =
       fromAddon = record { words = from 8 0 addon (b .«addon_head») (b .«addon_fill» .0); address = b .«write_address»; count = b .«write_count» .0 };
       intcsr = b .intcsr;
       mcsr = b .mcsr;
+      aint = b .aint;
     }

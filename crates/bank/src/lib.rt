@@ -14,6 +14,7 @@ pub struct Bank {
     pub marks: u32,
     pub intcsr: u32,
     pub mcsr: u32,
+    pub aint: u32,
     pub read_address: u32,
     pub read_count: ByteCount,
     pub pci_head: u32,
@@ -40,6 +41,7 @@ pub fn bank_of(c: Controller) -> Bank
         marks: c.marks,
         intcsr: c.intcsr,
         mcsr: c.mcsr,
+        aint: c.aint,
         read_address: from_pci.address,
         read_count,
         pci_head: pci.head,
@@ -114,5 +116,6 @@ pub fn controller_of(b: Bank, mail: [u32; 8], pci: [u32; 8], addon: [u32; 8]) ->
         from_addon,
         intcsr: b.intcsr,
         mcsr: b.mcsr,
+        aint: b.aint,
     }
 }

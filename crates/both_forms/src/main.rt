@@ -28,7 +28,7 @@ fn line(text: &[u8], before: usize, at: usize, is_by_reader: bool) -> &[u8] {
 
 fn write_log(text: &[u8], is_in_place: bool) {
     let mut memory = [0u32; 4096];
-    let mut out = [0u8; 40];
+    let mut out = [0u8; 41];
     let mut c = controller::reset();
     let mut before = 0;
     let mut at = 0;

@@ -16,4 +16,5 @@ stateOf c =
       fromAddon = laneOf (c .«from_addon»);
       intcsr = c .intcsr;
       mcsr = c .mcsr;
+      aint = c .aint;
     }

@@ -23,6 +23,7 @@ pub struct Controller {
     pub from_addon: Lane,
     pub intcsr: u32,
     pub mcsr: u32,
+    pub aint: u32,
 }
 
 fn reset_lane() -> Lane
@@ -49,5 +50,6 @@ pub fn reset() -> Controller
         from_addon,
         intcsr: 0,
         mcsr: 0,
+        aint: 0,
     }
 }

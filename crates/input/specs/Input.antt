@@ -22,8 +22,8 @@ use Rattle.input.specs.declared.SetLine.the-variants.{Nothing, Digit, Nu
 unfoldable pub isSetLine : List ℕ → Bool
 isSetLine line = eqb (length line) 2 && (allDigits line && isSet (number line))
 
--- The first line, ended by LF or by the end of the input, chooses the set, and all after it is run under that set. A missing or any other first
--- line is an unknown set, and nothing is run.
+-- The first line, ended by LF or by the end of the input, chooses the set, and all after it is run under that set. If there is none, or it
+-- names no set, the set is unknown, and nothing is run.
 unfoldable pub inputLog : List ℕ → List ℕ
 inputLog input = let line = lineAt input 0 in cond (isSetLine line) (programLog (number line) (drop (pastLine input 0) input)) refusal
 

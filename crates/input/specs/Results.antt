@@ -32,7 +32,7 @@ pub record InputRun : Type 0 where
   pub out : List ℕ
   pub log : Logged
 
--- with 40 bytes for each of so many lines what is left is left; with fewer nothing is done, and no byte is written
+-- with 41 bytes for each of so many lines what is left is left; with fewer nothing is done, and no byte is written
 unfoldable pub withRoom : ℕ → InputRun → InputOutcome → InputRun
 withRoom most before l =
     cond (isShort most (before .out))

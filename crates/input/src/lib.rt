@@ -165,7 +165,7 @@ fn put_refusal_after(out: &mut [u8], before: Reading) -> usize
 }
 
 // One piece: what it answers stands at the output's start. Each byte of the piece could end a line, and a refusal is one more:
-// where the output has not 40 bytes for each, nothing is done.
+// where the output has not 41 bytes for each, nothing is done.
 pub fn feed(i: Input, memory: &mut [u32], start: u32, piece: &[u8], out: &mut [u8]) -> FeedResult
     ensures { λ r. ⌜ FeedPromised i start (now (memory .entry)) (now (piece .entry)) (now (out .entry)) r (now (memory .exit)) (now (out .exit)) ⌝ }
 {
@@ -228,7 +228,7 @@ fn has_set(line: SetLine) -> bool
     }
 }
 
-// The end of the input: what it answers stands at the output's start. Where the output has not 40 bytes for each line that may
+// The end of the input: what it answers stands at the output's start. Where the output has not 41 bytes for each line that may
 // still be answered, nothing is done.
 pub fn finish(i: Input, memory: &mut [u32], start: u32, out: &mut [u8]) -> FinishResult
     ensures { λ r. ⌜ FinishPromised i start (now (memory .entry)) (now (out .entry)) r (now (memory .exit)) (now (out .exit)) ⌝ }

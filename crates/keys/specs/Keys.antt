@@ -10,9 +10,9 @@ use Rattle.promises.specs.Fits.{WordsFit, StateFits, Given}
 use Rattle.logline.specs.LogLine.{logLine}
 use Rattle.log.specs.Log.{textOutcome}
 
--- `numbers-are-key`: of any two answers that are given, the 20 digits before the label are the whole answer but for the marks that changed, whatever the sets; the label adds nothing
+-- `numbers-are-key`: of any two answers that are given, the 21 digits before the label are the whole answer but for the marks that changed, whatever the sets; the label adds nothing
 abbrev pub NumbersAreKey : Type 0
-NumbersAreKey = (set other : ℕ) (a b : Answer) → Given a → Given b → take 20 (logLine set a) ≡ take 20 (logLine other b) → logged a ≡ logged b
+NumbersAreKey = (set other : ℕ) (a b : Answer) → Given a → Given b → take 21 (logLine set a) ≡ take 21 (logLine other b) → logged a ≡ logged b
 
 abbrev pub AllGiven : List Answer → Type 0
 AllGiven [] = Unit {0}

@@ -9,16 +9,16 @@ use lib.Bits.{bitAnd, and-high, and-le-r}
 use lib.ListN.{length, drop, length-append, length-drop}
 use borrow.Author.Tests.{ltb-false, le-ltb, eqb-true, eq-eqb, not-false}
 use Rattle.machine.specs.Words.{bit, only, raised, cleared, merged, written}
-use Rattle.machine.specs.Sides.{Side, pci, addon, other, host, card}
+use Rattle.machine.specs.Sides.{Side, pci, addon, other, sameSide, sideOf}
 use Rattle.machine.specs.State.{State, lane, held, resetState}
 use Rattle.machine.specs.Access.{Access, accessOf, Kind, reading, writing, cycle, chipReset, unknown, isReset, cycles, writes}
-use Rattle.machine.specs.Offsets.{fifoPort, addressAt, countAt, intcsrAt, mcsrAt}
+use Rattle.machine.specs.Offsets.{fifoPort, addressAt, countAt, interruptsAt, controlAt}
 use Rattle.machine.specs.Commands.{clearsFifo}
 use Rattle.machine.specs.Fifos.{handedOut, fifoAfter, cycleFeeds, followed}
 use Rattle.machine.specs.Mailboxes.{changes}
 use Rattle.machine.specs.Mcsr.{mcsrKept, mcsrAfter}
 use Rattle.machine.specs.Cycles.{addressKept, countKept, nextAddress, countLeft, runsOut, addressAfter, countAfter, laneAfter}
-use Rattle.machine.specs.Intcsr.{intcsrKept, intcsrEvents, intcsrHeld, intcsrWritten, outgoingEvent, incomingEvent, countBit, intcsrAfter, intcsrAborted}
+use Rattle.machine.specs.Interrupts.{interrupts, interruptsKept, flags, interruptsHeld, interruptsWritten, outgoingEvent, incomingEvent, notified, countBit, interruptsAfter, interruptsAborted}
 use Rattle.machine.specs.Code.{codeOf, tests, faults, laneFaults, anyOf, isOutOfForm, isFullOrEmpty, isNotReady}
 use Rattle.machine.specs.Step.{doneState, abortedState, stateAfter, stepOf, respond, replyOf}
 use Rattle.machine.specs.declared.Step.{Step}
@@ -88,33 +88,44 @@ lane-form side st x word e f h =
 
 -- ---- INTCSR and MCSR hold no other bit
 
-intcsr-written : (old new e : ℕ) → Only intcsrHeld (intcsrWritten old new e)
-unfolding intcsrWritten written cleared
-intcsr-written old new e =
-    only-or intcsrHeld _ _ (only-and intcsrHeld (merged old new e) intcsrKept refl)
-    (only-and-left intcsrHeld (bitAnd old intcsrEvents) _ (only-and intcsrHeld old intcsrEvents refl))
+interrupts-written : (side : Side) (old new e : ℕ) → Only (interruptsHeld side) (interruptsWritten side old new e)
+unfolding interruptsWritten written cleared
+interrupts-written pci old new e =
+    only-or (interruptsHeld pci) _ _ (only-and (interruptsHeld pci) (merged old new e) interruptsKept refl)
+    (only-and-left (interruptsHeld pci) (bitAnd old (flags pci)) _ (only-and (interruptsHeld pci) old (flags pci) refl))
+interrupts-written addon old new e =
+    only-or (interruptsHeld addon) _ _ (only-and (interruptsHeld addon) (merged old new e) interruptsKept refl)
+    (only-and-left (interruptsHeld addon) (bitAnd old (flags addon)) _ (only-and (interruptsHeld addon) old (flags addon) refl))
 
 if-so : (y : ℕ) (b : Bool) (a c : ℕ) → Only y a → Only y c → Only y (cond b a c)
 if-so y true a c p q = p
 if-so y false a c p q = q
 
-count-raised : (side : Side) (i : ℕ) (on : Bool) → Only intcsrHeld i → Only intcsrHeld (raised i on (countBit side))
-count-raised pci i on p = only-raised intcsrHeld i 19 on p refl
-count-raised addon i on p = only-raised intcsrHeld i 18 on p refl
+count-raised : (side of : Side) (i : ℕ) (on : Bool) → Only (interruptsHeld side) i → Only (interruptsHeld side) (raised i on (countBit of))
+count-raised pci pci i on p = only-raised (interruptsHeld pci) i 19 on p refl
+count-raised pci addon i on p = only-raised (interruptsHeld pci) i 18 on p refl
+count-raised addon pci i on p = only-raised (interruptsHeld addon) i 19 on p refl
+count-raised addon addon i on p = only-raised (interruptsHeld addon) i 18 on p refl
 
-intcsr-only : (k : Kind) (st : State) (x : Access) → Only intcsrHeld (st .intcsr) → Only intcsrHeld (intcsrAfter k st x)
-unfolding intcsrAfter
-intcsr-only (reading host) st x h = h
-intcsr-only (reading card) st x h = only-raised intcsrHeld (st .intcsr) 16 (outgoingEvent (st .intcsr) (changes x (st .marks))) h refl
-intcsr-only (writing host) st x h = if-so intcsrHeld (eqb (x .offset) intcsrAt) _ (st .intcsr) (intcsr-written (st .intcsr) (x .value) (x .enables)) h
-intcsr-only (writing card) st x h = only-raised intcsrHeld (st .intcsr) 17 (incomingEvent (st .intcsr) (changes x (st .marks))) h refl
-intcsr-only (cycle side) st x h = count-raised side (st .intcsr) (runsOut (lane side st .count)) h
-intcsr-only chipReset st x h = h
-intcsr-only unknown st x h = h
+notified-only : (side : Side) (i changed : ℕ) → Only (interruptsHeld side) i → Only (interruptsHeld side) (notified i changed)
+unfolding notified
+notified-only pci i changed h = only-raised (interruptsHeld pci) _ 17 (incomingEvent i changed) (only-raised (interruptsHeld pci) i 16 (outgoingEvent i changed) h refl) refl
+notified-only addon i changed h = only-raised (interruptsHeld addon) _ 17 (incomingEvent i changed) (only-raised (interruptsHeld addon) i 16 (outgoingEvent i changed) h refl) refl
+
+interrupts-only : (side : Side) (k : Kind) (st : State) (x : Access) → Only (interruptsHeld side) (interrupts side st) → Only (interruptsHeld side) (interruptsAfter side k st x)
+unfolding interruptsAfter
+interrupts-only side (reading by) st x h = if-so (interruptsHeld side) (sameSide side (sideOf by)) _ _ h (notified-only side (interrupts side st) (changes x (st .marks)) h)
+interrupts-only side (writing by) st x h =
+    if-so (interruptsHeld side) (sameSide side (sideOf by)) _ _
+    (if-so (interruptsHeld side) (eqb (x .offset) interruptsAt) _ _ (interrupts-written side (interrupts side st) (x .value) (x .enables)) h)
+    (notified-only side (interrupts side st) (changes x (st .marks)) h)
+interrupts-only side (cycle of) st x h = count-raised side of (interrupts side st) (runsOut (lane of st .count)) h
+interrupts-only side chipReset st x h = h
+interrupts-only side unknown st x h = h
 
 mcsr-only : (st : State) (x : Access) → Only mcsrKept (st .mcsr) → Only mcsrKept (mcsrAfter x (st .mcsr))
 unfolding mcsrAfter written
-mcsr-only st x h = if-so mcsrKept (writes pci mcsrAt x) _ (st .mcsr) (only-and mcsrKept (merged (st .mcsr) (x .value) (x .enables)) mcsrKept refl) h
+mcsr-only st x h = if-so mcsrKept (writes pci controlAt x) _ (st .mcsr) (only-and mcsrKept (merged (st .mcsr) (x .value) (x .enables)) mcsrKept refl) h
 
 held-form : (y p q : ℕ) → not (only y p) ≡ false → (Only y p → Only y q) → not (only y q) ≡ false
 held-form y p q h f = ap not (only-is y q (f (is-only y p (not-false (only y p) h))))
@@ -130,8 +141,9 @@ done-form st start words x word e =
     anyOf
     (lane-form pci st x word (none 8) (none 12) (was 0) i
     ∷ lane-form addon st x word (none 8) (none 12) (was 1) i
-    ∷ held-form intcsrHeld (st .intcsr) (intcsrAfter (x .kind) st x) (was 2) (intcsr-only (x .kind) st x) i
+    ∷ held-form (interruptsHeld pci) (st .intcsr) (interruptsAfter pci (x .kind) st x) (was 2) (interrupts-only pci (x .kind) st x) i
     ∷ held-form mcsrKept (st .mcsr) (mcsrAfter x (st .mcsr)) (was 3) (mcsr-only st x) i
+    ∷ held-form (interruptsHeld addon) (st .aint) (interruptsAfter addon (x .kind) st x) (was 4) (interrupts-only addon (x .kind) st x) i
     ∷ [])
 
 pub reset-form : isOutOfForm resetState ≡ false
@@ -143,10 +155,17 @@ reset-or true s t e f = e
 reset-or false s t e f = f
 
 aborted-form : (st : State) → isOutOfForm st ≡ false → isOutOfForm (abortedState st) ≡ false
-unfolding isOutOfForm abortedState intcsrAborted
+unfolding isOutOfForm abortedState interruptsAborted
 aborted-form st e =
     let was = any-none (faults st) e in
-    λ i. anyOf (was 0 i ∷ was 1 i ∷ held-form intcsrHeld (st .intcsr) (raised (st .intcsr) true 20) (was 2) (λ h. only-raised intcsrHeld (st .intcsr) 20 true h refl) i ∷ was 3 i ∷ [])
+    λ i.
+    anyOf
+    (was 0 i
+    ∷ was 1 i
+    ∷ held-form (interruptsHeld pci) (st .intcsr) (raised (st .intcsr) true 20) (was 2) (λ h. only-raised (interruptsHeld pci) (st .intcsr) 20 true h refl) i
+    ∷ was 3 i
+    ∷ held-form (interruptsHeld addon) (st .aint) (raised (st .aint) true 21) (was 4) (λ h. only-raised (interruptsHeld addon) (st .aint) 21 true h refl) i
+    ∷ [])
 
 after-form : (st : State) (start words : ℕ) (x : Access) (code word : ℕ) → codeOf st start words x ≡ code → isOutOfForm st ≡ false
     → isOutOfForm (stateAfter st x code word) ≡ false

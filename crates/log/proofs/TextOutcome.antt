@@ -1,5 +1,5 @@
 -- Lines told one after the other, and the log of their answers.
---     log-append, log-length    the log of answers joined; 40 bytes an answer at most
+--     log-append, log-length    the log of answers joined; 41 bytes an answer at most
 --     told-length               one answer for each line
 use Prim.Native.Nat.{ℕ, _+_, _*_, _≤_, zero-le}
 use mathlib.Core.Path.{_≡_, refl, sym, ap, _∙_}

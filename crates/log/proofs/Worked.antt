@@ -26,4 +26,4 @@ second-hold = (refl, refl)
 
 pub echoing-fails : EchoingFails
 unfolding computing hexDigits placeIn digitNumber allDigits numberFrom digitOf digits linesFrom isFrame stepIn frameOf framedOutcome english german labelSets labelOf numbers logBody logLine lineOutcome logOf linesOutcome programLog
-echoing-fails e = let n : _≡_ {A = ℕ} 72 156 = ap length e in absurd (omega arith)
+echoing-fails e = let n : _≡_ {A = ℕ} 73 161 = ap length e in absurd (omega arith)

@@ -101,7 +101,7 @@ abbrev pub workedFrames : List ℕ
 workedFrames = bytes "03101000000A5\n0034F00000000\n0010100000000\n0020F00000000\nxyz"
 
 abbrev pub workedLog : List ℕ
-workedLog = bytes "00000000000000000000 done\n00000000000001000000 done\n0000000000000000A500 done\n08000000000000000000 FIFO full or empty\n0E000000000000000000 not a frame line\n"
+workedLog = bytes "000000000000000000000 done\n000000000000010000000 done\n0000000000000000A5000 done\n080000000000000000000 FIFO full or empty\n0E0000000000000000000 not a frame line\n"
 
 -- `worked-hold`
 abbrev pub WorkedHold : Type 0
@@ -109,7 +109,7 @@ WorkedHold = programLog englishSet workedFrames ≡ workedLog
 
 -- `german-hold`: the same frames under the German set
 abbrev pub germanLog : List ℕ
-germanLog = bytes "00000000000000000000 erledigt\n00000000000001000000 erledigt\n0000000000000000A500 erledigt\n08000000000000000000 FIFO voll/leer\n0E000000000000000000 keine Rahmenzeile\n"
+germanLog = bytes "000000000000000000000 erledigt\n000000000000010000000 erledigt\n0000000000000000A5000 erledigt\n080000000000000000000 FIFO voll/leer\n0E0000000000000000000 keine Rahmenzeile\n"
 
 abbrev pub GermanHold : Type 0
 GermanHold = programLog 1 workedFrames ≡ germanLog
@@ -123,14 +123,14 @@ secondFrames =
 
 abbrev pub secondLog : List ℕ
 secondLog =
-    bytes "0E000000000000000000 not a frame line\n0E000000000000000000 not a frame line\n0E000000000000000000 not a frame line\n"
-    ++ bytes "0E000000000000000000 not a frame line\n0E000000000000000000 not a frame line\n"
-    ++ bytes "00000000000000000000 done\n00000000000000000000 done\n00000000000000000000 done\n00000000000000000000 done\n00000000000000000000 done\n"
-    ++ bytes "00000001001122334431 done\n0E000000000000000001 not a frame line\n0000000000000004E601 done\n"
+    bytes "0E0000000000000000000 not a frame line\n0E0000000000000000000 not a frame line\n0E0000000000000000000 not a frame line\n"
+    ++ bytes "0E0000000000000000000 not a frame line\n0E0000000000000000000 not a frame line\n"
+    ++ bytes "000000000000000000000 done\n000000000000000000000 done\n000000000000000000000 done\n000000000000000000000 done\n000000000000000000000 done\n"
+    ++ bytes "000000010011223344310 done\n0E0000000000000000010 not a frame line\n0000000000000004E6010 done\n"
 
 -- `second-hold`; and LFs alone are as many empty lines, with none after the last
 abbrev pub SecondHold : Type 0
-SecondHold = (programLog englishSet secondFrames ≡ secondLog) × (programLog englishSet (bytes "\n\n") ≡ bytes "0E000000000000000000 not a frame line\n0E000000000000000000 not a frame line\n")
+SecondHold = (programLog englishSet secondFrames ≡ secondLog) × (programLog englishSet (bytes "\n\n") ≡ bytes "0E0000000000000000000 not a frame line\n0E0000000000000000000 not a frame line\n")
 
 -- How tight the contracts are: a worthless log, right about the first line, which gives back every later one as it came
 abbrev pub echo : List (List ℕ) → List ℕ

@@ -28,17 +28,19 @@ use step::Stepped;
 
 // ---- a line
 
-// The answer to a line that is no frame: code 14, with the interrupt line of INTCSR.
-fn not_a_frame(i: u32) -> Answer
-    ensures { λ r. ⌜ ((st : State) → st .intcsr ≡ i → r ≡ notAFrame st) ⌝ }
+// The answer to a line that is no frame: code 14, with the lines of INTCSR and AINT.
+fn not_a_frame(i: u32, a: u32) -> Answer
+    ensures { λ r. ⌜ ((st : State) → st .intcsr ≡ i → st .aint ≡ a → r ≡ notAFrame st) ⌝ }
 {
-    let line = intcsr::line(i);
+    let line = interrupts::line(i);
+    let addon_line = interrupts::line(a);
     Answer {
         code: codes::NOT_A_FRAME_LINE,
         address: 0,
         value: 0,
         enables: 0,
         line,
+        addon_line,
         changed: 0,
     }
 }
@@ -50,7 +52,7 @@ fn answer(c: Controller, memory: &mut [u32], start: u32, f: Framed) -> Stepped
     match f {
         Framed::Frame(s) => step::step(c, memory, start, s),
         Framed::NotAFrame => {
-            let answer = not_a_frame(c.intcsr);
+            let answer = not_a_frame(c.intcsr, c.aint);
             Stepped {
                 controller: c,
                 answer,
@@ -207,7 +209,7 @@ fn banked(
     match f {
         Framed::Frame(s) => step::in_bank(b, mail, pci, addon, memory, start, form, s),
         Framed::NotAFrame => {
-            let answer = not_a_frame(b.intcsr);
+            let answer = not_a_frame(b.intcsr, b.aint);
             Banked { bank: b, answer }
         }
     }
@@ -258,7 +260,7 @@ fn feed_bytes(
 }
 
 // One piece: the log of the lines that end in it stands at the output's start, with the labels of a set. Where the output has
-// fewer than 40 bytes for each byte of the piece, nothing is done.
+// fewer than 41 bytes for each byte of the piece, nothing is done.
 pub fn feed(
     s: Stream,
     memory: &mut [u32],
@@ -312,7 +314,7 @@ fn end_line(
 }
 
 // A text from a controller and memory on: the log stands at the output's start, with the labels of a set. Where the output has
-// fewer than 40 bytes for each line, nothing is done.
+// fewer than 41 bytes for each line, nothing is done.
 pub fn run(
     c: Controller,
     memory: &mut [u32],

@@ -34,4 +34,5 @@ module _ (test : ℕ → Bool) where
         let address = every-append c d (every-digits 2 (a .code)) (every-digits 8 (a .address)) in
         let value = every-append (c ++ d) v address (every-digits 8 (a .value)) in
         let enables = every-append (c ++ d ++ v) n value (every-digits 1 (a .enables)) in
-        every-append (c ++ d ++ v ++ n) l enables (every-digits 1 (cond (a .line) 1 0))
+        let line = every-append (c ++ d ++ v ++ n) l enables (every-digits 1 (cond (a .line) 1 0)) in
+        every-append (c ++ d ++ v ++ n ++ l) (digits 1 (cond (a .«addon_line») 1 0)) line (every-digits 1 (cond (a .«addon_line») 1 0))

@@ -67,14 +67,14 @@ line-key true false e = absurd (let z = one 1 1 0 (lit< tt) (lit< tt) e in omega
 line-key false true e = absurd (let z = one 1 0 1 (lit< tt) (lit< tt) e in omega arith)
 line-key false false e = refl
 
-length-numbers : (a : Answer) → length (numbers a) ≡ 20
+length-numbers : (a : Answer) → length (numbers a) ≡ 21
 unfolding numbers
 length-numbers a = simp (length-append, length-digits)
 
-first-20 : (set : ℕ) (a : Answer) → take 20 (logLine set a) ≡ numbers a
+first-21 : (set : ℕ) (a : Answer) → take 21 (logLine set a) ≡ numbers a
 unfolding logBody logLine
-first-20 set a =
-    let n : length (numbers a) ≡ 20 = length-numbers a in
+first-21 set a =
+    let n : length (numbers a) ≡ 21 = length-numbers a in
     rw (append-assoc (numbers a ++ bytes " "), append-assoc (numbers a), ← n) (take-append-seam (numbers a) _)
 
 -- the numbers of an answer have no more digits than the log gives them
@@ -84,10 +84,10 @@ pub record InDigits (a : Answer) : Type 0 where
   pub value : a .value < 16 ^ 8
   pub enables : a .enables < 16 ^ 1
 
-pub digits-are-key : (set other : ℕ) (a b : Answer) → InDigits a → InDigits b → take 20 (logLine set a) ≡ take 20 (logLine other b) → logged a ≡ logged b
+pub digits-are-key : (set other : ℕ) (a b : Answer) → InDigits a → InDigits b → take 21 (logLine set a) ≡ take 21 (logLine other b) → logged a ≡ logged b
 unfolding numbers
 digits-are-key set other a b f g e =
-    let all = sym (first-20 set a) ∙ e ∙ first-20 other b in
+    let all = sym (first-21 set a) ∙ e ∙ first-21 other b in
     let c = digits 2 (a .code) in
     let c′ = digits 2 (b .code) in
     let d = c ++ digits 8 (a .address) in
@@ -96,18 +96,23 @@ digits-are-key set other a b f g e =
     let v′ = d′ ++ digits 8 (b .value) in
     let n = v ++ digits 1 (a .enables) in
     let n′ = v′ ++ digits 1 (b .enables) in
-    let l = digits 1 (cond (a .line) 1 0) in
-    let l′ = digits 1 (cond (b .line) 1 0) in
+    let m = n ++ digits 1 (cond (a .line) 1 0) in
+    let m′ = n′ ++ digits 1 (cond (b .line) 1 0) in
+    let l = digits 1 (cond (a .«addon_line») 1 0) in
+    let l′ = digits 1 (cond (b .«addon_line») 1 0) in
+    let m-long : length m ≡ length m′ = simp (length-append, length-digits) in
     let n-long : length n ≡ length n′ = simp (length-append, length-digits) in
     let v-long : length v ≡ length v′ = simp (length-append, length-digits) in
     let d-long : length d ≡ length d′ = simp (length-append, length-digits) in
     let c-long : length c ≡ length c′ = simp (length-digits) in
-    let n-same : n ≡ n′ = heads n l n′ l′ n-long all in
+    let m-same : m ≡ m′ = heads m l m′ l′ m-long all in
+    let n-same : n ≡ n′ = heads n (digits 1 (cond (a .line) 1 0)) n′ (digits 1 (cond (b .line) 1 0)) n-long m-same in
     let v-same : v ≡ v′ = heads v (digits 1 (a .enables)) v′ (digits 1 (b .enables)) v-long n-same in
     let d-same : d ≡ d′ = heads d (digits 8 (a .value)) d′ (digits 8 (b .value)) d-long v-same in
     let code = one 2 (a .code) (b .code) (f .code) (g .code) (heads c (digits 8 (a .address)) c′ (digits 8 (b .address)) c-long d-same) in
     let address = one 8 (a .address) (b .address) (f .address) (g .address) (tails c (digits 8 (a .address)) c′ (digits 8 (b .address)) c-long d-same) in
     let value = one 8 (a .value) (b .value) (f .value) (g .value) (tails d (digits 8 (a .value)) d′ (digits 8 (b .value)) d-long v-same) in
     let enables = one 1 (a .enables) (b .enables) (f .enables) (g .enables) (tails v (digits 1 (a .enables)) v′ (digits 1 (b .enables)) v-long n-same) in
-    let line = line-key (a .line) (b .line) (tails n l n′ l′ n-long all) in
-    λ i. record { code = code i; address = address i; value = value i; enables = enables i; line = line i; changed = 0 }
+    let line = line-key (a .line) (b .line) (tails n (digits 1 (cond (a .line) 1 0)) n′ (digits 1 (cond (b .line) 1 0)) n-long m-same) in
+    let addon = line-key (a .«addon_line») (b .«addon_line») (tails m l m′ l′ m-long all) in
+    λ i. record { code = code i; address = address i; value = value i; enables = enables i; line = line i; «addon_line» = addon i; changed = 0 }

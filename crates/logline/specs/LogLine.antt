@@ -9,9 +9,12 @@ use Rattle.machine.specs.declared.Answer.{Answer}
 use Rattle.hex.specs.Hex.{bytes, digits}
 use Rattle.logline.specs.Labels.{englishSet, labelOf}
 
--- Frames and the log: 20 digits, two of the code, eight of the address, eight of the data, one of the enables, one that is 1 while the interrupt line is up
+-- Frames and the log, Ask 3: 21 digits, two of the code, eight of the address, eight of the data, one of the enables, one that is 1 while PCI's interrupt line
+-- is up, and one for the Add-On's
 unfoldable pub numbers : Answer → List ℕ
-numbers a = digits 2 (a .code) ++ digits 8 (a .address) ++ digits 8 (a .value) ++ digits 1 (a .enables) ++ digits 1 (cond (a .line) 1 0)
+numbers a =
+    digits 2 (a .code) ++ digits 8 (a .address) ++ digits 8 (a .value) ++ digits 1 (a .enables) ++ digits 1 (cond (a .line) 1 0)
+    ++ digits 1 (cond (a .«addon_line») 1 0)
 
 -- then one space, and the label that the set has for the code
 unfoldable pub logBody : ℕ → Answer → List ℕ
@@ -23,7 +26,7 @@ logLine set a = logBody set a ++ bytes "\n"
 
 -- an unknown label set is answered by code 15 and nothing else (document 02, Ask 1)
 abbrev pub unknownSet : Answer
-unknownSet = record { code = unknownLabelSet; address = 0; value = 0; enables = 0; line = false; changed = 0 }
+unknownSet = record { code = unknownLabelSet; address = 0; value = 0; enables = 0; line = false; «addon_line» = false; changed = 0 }
 
 -- the one line that refuses it, with its English label
 unfoldable pub refusal : List ℕ
@@ -31,7 +34,7 @@ refusal = logLine englishSet unknownSet
 
 -- the room that is asked for each line: no log line is longer (`line-fits`)
 abbrev pub lineRoom : ℕ
-lineRoom = 40
+lineRoom = 41
 
 -- the log line where there is room for any, from a place on, and nothing where there isn't
 unfoldable pub lineIn : ℕ → List ℕ → ℕ → Answer → List ℕ

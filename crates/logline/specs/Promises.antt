@@ -32,15 +32,15 @@ isPlain b = leb 32 b && ltb b 127
 abbrev pub LabelsPlain : Type 0
 LabelsPlain = (set code at : ℕ) → at < length (labelOf set code) → isPlain (getD (labelOf set code) at 0) ≡ true
 
--- `line-fits`: 40 bytes are enough for any log line
+-- `line-fits`: 41 bytes are enough for any log line
 abbrev pub LineFits : Type 0
-LineFits = (set : ℕ) (a : Answer) → length (logLine set a) ≤ 40
+LineFits = (set : ℕ) (a : Answer) → length (logLine set a) ≤ 41
 
--- `line-room`: with 40 bytes from the place on `put_line` writes the log line, with fewer nothing
+-- `line-room`: with 41 bytes from the place on `put_line` writes the log line, with fewer nothing
 abbrev pub LineRoom : Type 0
 LineRoom =
     (set : ℕ) (out : List ℕ) (at : ℕ) (a : Answer)
-    → (at + 40 ≤ length out → lineIn set out at a ≡ logLine set a) × (length out < at + 40 → lineIn set out at a ≡ [])
+    → (at + 41 ≤ length out → lineIn set out at a ≡ logLine set a) × (length out < at + 41 → lineIn set out at a ≡ [])
 
 -- `marks-unlogged`: the log does not show which marks changed: answers that are else alike have one log line
 abbrev pub MarksUnlogged : Type 0
@@ -48,7 +48,7 @@ MarksUnlogged = (set : ℕ) (a b : Answer) → logged a ≡ logged b → logLine
 
 -- `refusal-line`: the line that refuses an unknown set, byte for byte
 abbrev pub RefusalLine : Type 0
-RefusalLine = refusal ≡ bytes "0F000000000000000000 unknown label set\n"
+RefusalLine = refusal ≡ bytes "0F0000000000000000000 unknown label set\n"
 
 -- `wrote-unique`: two results that meet one contract of writing are the same, and so are the outputs
 abbrev pub WroteUnique : Type 0

@@ -10,7 +10,7 @@ ghost use Rattle.logline.specs.LogLine.{numbers, unknownSet, lineIn};
 use machine::Answer;
 
 // The most bytes that a log line has.
-pub const LINE_ROOM: usize = 40;
+pub const LINE_ROOM: usize = 41;
 
 // The number of the English label set.
 pub const ENGLISH: u32 = 0;
@@ -138,20 +138,21 @@ fn put_label(out: &mut [u8], at: usize, code: u32, set: u32) -> usize
     }
 }
 
-// Writes the 20 digits of an answer, and answers the place past them.
+// Writes the 21 digits of an answer, and answers the place past them.
 fn put_numbers(out: &mut [u8], at: usize, a: Answer) -> usize
-    requires { ⌜ at + 20 ≤ length (now out) ⌝ }
-    ensures { λ r. ⌜ (r ≡ at + 20) × Wrote (now (out .entry)) at (numbers a) r (now (out .exit)) ⌝ }
+    requires { ⌜ at + 21 ≤ length (now out) ⌝ }
+    ensures { λ r. ⌜ (r ≡ at + 21) × Wrote (now (out .entry)) at (numbers a) r (now (out .exit)) ⌝ }
 {
     let p1 = put_digits(out, at, 2, a.code);
     let p2 = put_digits(out, p1, 8, a.address);
     let p3 = put_digits(out, p2, 8, a.value);
     let p4 = put_digits(out, p3, 1, a.enables);
-    put_digits(out, p4, 1, a.line as u32)
+    let p5 = put_digits(out, p4, 1, a.line as u32);
+    put_digits(out, p5, 1, a.addon_line as u32)
 }
 
 // Writes the log line of an answer at a place, with the label of a set, and answers the place past it. Where there is no room
-// for 40 bytes it writes nothing, and answers the place itself. A number that is no set has no labels.
+// for 41 bytes it writes nothing, and answers the place itself. A number that is no set has no labels.
 pub fn put_line(out: &mut [u8], at: usize, a: Answer, set: u32) -> usize
     ensures { λ r. ⌜ Wrote (now (out .entry)) at (lineIn set (now (out .entry)) at a) r (now (out .exit)) ⌝ }
 {
@@ -170,12 +171,12 @@ pub fn put_line(out: &mut [u8], at: usize, a: Answer, set: u32) -> usize
 }
 
 // Writes the line that refuses an unknown label set, with its English label, at the output's start, and answers the place past
-// it. Where there is no room for 40 bytes it writes nothing.
+// it. Where there is no room for 41 bytes it writes nothing.
 pub fn put_refusal(out: &mut [u8]) -> usize
     ensures { λ r. ⌜ Wrote (now (out .entry)) 0 (lineIn englishSet (now (out .entry)) 0 unknownSet) r (now (out .exit)) ⌝ }
 {
     if out.len() < LINE_ROOM {
         return 0;
     }
-    put(out, 0, b"0F000000000000000000 unknown label set\n")
+    put(out, 0, b"0F0000000000000000000 unknown label set\n")
 }

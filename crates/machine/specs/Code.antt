@@ -5,7 +5,7 @@ use mathlib.Core.List.{List, [], _∷_, _++_}
 use lib.Dec.{eqb, ltb}
 use lib.ListN.{length}
 use Rattle.machine.specs.Words.{bit, only}
-use Rattle.machine.specs.Sides.{Side, other, either}
+use Rattle.machine.specs.Sides.{Side, pci, addon, other, either}
 use Rattle.machine.specs.State.{State, Lane, lane, held}
 use Rattle.machine.specs.Access.{Access, isAccess, isRead, isWrite, isUnknown, cycles, reads, writes}
 use Rattle.machine.specs.Offsets.{inTable, isReadOnly, fifoPort}
@@ -13,7 +13,7 @@ use Rattle.machine.specs.Fifos.{depth, isEmpty, isFull}
 use Rattle.machine.specs.Window.{inside, isWindowOutOfForm}
 use Rattle.machine.specs.Mcsr.{mcsrKept, enableBit}
 use Rattle.machine.specs.Cycles.{isReady}
-use Rattle.machine.specs.Intcsr.{intcsrHeld, abortIn}
+use Rattle.machine.specs.Interrupts.{interruptsHeld, abortIn}
 use Rattle.machine.specs.Codes.{done, stateOutOfForm, windowOutOfForm, unknownStep, unknownOffset, badEnables, partFifoAccess, readOnlyRegister, fifoFullOrEmpty, transferOff, countIsZero, abortStands, fifoNotReady, noMemoryThere}
 
 abbrev pub anyOf : List Bool → Bool
@@ -24,10 +24,11 @@ anyOf (b ∷ bs) = b || anyOf bs
 abbrev pub laneFaults : Lane → List Bool
 laneFaults l = ltb depth (length (l .words)) ∷ not (eqb (l .address % 4) 0) ∷ ltb 0x03FF_FFFF (l .count) ∷ []
 
--- 1, of all: either lane, a bit in INTCSR that is neither kept nor a flag, a bit in MCSR that is not kept
+-- 1, of all: either lane, a bit in INTCSR that is neither kept nor a flag, a bit in MCSR that is not kept, a bit in AINT that is neither kept nor a flag
 abbrev pub faults : State → List Bool
 faults st =
-    anyOf (laneFaults (st .fromPci)) ∷ anyOf (laneFaults (st .fromAddon)) ∷ not (only intcsrHeld (st .intcsr)) ∷ not (only mcsrKept (st .mcsr)) ∷ []
+    anyOf (laneFaults (st .fromPci)) ∷ anyOf (laneFaults (st .fromAddon)) ∷ not (only (interruptsHeld pci) (st .intcsr)) ∷ not (only mcsrKept (st .mcsr))
+    ∷ not (only (interruptsHeld addon) (st .aint)) ∷ []
 
 unfoldable pub isOutOfForm : State → Bool
 isOutOfForm st = anyOf (faults st)

@@ -1,23 +1,25 @@
--- INTCSR and MCSR: the clears that a write to MCSR commands.
+-- INTCSR and MCSR, Ask 3: the clears that a write to MCSR or to AGCSTS commands.
 use Prim.Native.Nat.{ℕ}
 use mathlib.Core.Bool.{Bool, _&&_}
 use Rattle.machine.specs.Words.{bit}
-use Rattle.machine.specs.Sides.{Side, pci, addon}
-use Rattle.machine.specs.Offsets.{mcsrAt}
+use Rattle.machine.specs.Sides.{Side, pci, addon, either}
+use Rattle.machine.specs.Offsets.{controlAt}
 use Rattle.machine.specs.Access.{Access, writes}
 
--- a side writes a one to bit k, one of 24 to 31, of its control register at 3C, byte 3 enabled; only PCI has one here, MCSR
+-- a side writes a one to bit k, one of 24 to 31, of its control register at 3C, byte 3 enabled
 abbrev pub commands : Side → ℕ → Access → Bool
-commands side k x = writes side mcsrAt x && bit (x .enables) 3 && bit (x .value) k
+commands side k x = writes side controlAt x && bit (x .enables) 3 && bit (x .value) k
 
--- by 27 all thirty-two mailbox marks go
+-- by 27 of either all thirty-two mailbox marks go
 abbrev pub clearsMarks : Access → Bool
-clearsMarks x = commands pci 27 x
+clearsMarks x = either (λ by. commands by 27 x)
 
--- by 25 the words from PCI go, by 26 those from the Add-On
-abbrev pub clearBit : Side → ℕ
-clearBit pci = 25
-clearBit addon = 26
+-- by 25 of MCSR the words from PCI go, by 26 those from the Add-On; AGCSTS has the two the other way round (Ask 3)
+abbrev pub clearBit : Side → Side → ℕ
+clearBit pci pci = 25
+clearBit pci addon = 26
+clearBit addon pci = 26
+clearBit addon addon = 25
 
 abbrev pub clearsFifo : Side → Access → Bool
-clearsFifo side x = commands pci (clearBit side) x
+clearsFifo side x = either (λ by. commands by (clearBit by side) x)

@@ -9,7 +9,7 @@ pub record Event : Type 0 where
 
 -- an answer as the log shows it: without the marks that changed (Ask 2)
 abbrev pub logged : Answer → Answer
-logged a = record { code = a .code; address = a .address; value = a .value; enables = a .enables; line = a .line; changed = 0 }
+logged a = record { code = a .code; address = a .address; value = a .value; enables = a .enables; line = a .line; «addon_line» = a .«addon_line»; changed = 0 }
 
 abbrev pub loggedAnswers : List Event → List Answer
 loggedAnswers es = map (λ (e : Event). logged (e .answer)) es

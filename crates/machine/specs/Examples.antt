@@ -60,31 +60,37 @@ writeCycle = stepBy 4 0 0 0
 abbrev pub readCycle : Step
 readCycle = stepBy 5 0 0 0
 
--- done, with data, the interrupt line low
+-- done, with data, both interrupt lines low
 abbrev pub says : ℕ → Answer
-says value = record { code = 0; address = 0; value = value; enables = 0; line = false; changed = 0 }
+says value = record { code = 0; address = 0; value = value; enables = 0; line = false; «addon_line» = false; changed = 0 }
 
 abbrev pub ok : Answer
 ok = says 0
 
 -- a done cycle: its address, its word, its enables
 abbrev pub moves : ℕ → ℕ → ℕ → Answer
-moves address value enables = record { code = 0; address = address; value = value; enables = enables; line = false; changed = 0 }
+moves address value enables = record { code = 0; address = address; value = value; enables = enables; line = false; «addon_line» = false; changed = 0 }
 
 abbrev pub refuses : ℕ → Answer
-refuses code = record { code = code; address = 0; value = 0; enables = 0; line = false; changed = 0 }
+refuses code = record { code = code; address = 0; value = 0; enables = 0; line = false; «addon_line» = false; changed = 0 }
 
--- code 13: the address, and the line is high
+-- code 13: the address, and both lines are high
 abbrev pub absent : ℕ → Answer
-absent address = record { code = 13; address = address; value = 0; enables = 0; line = true; changed = 0 }
+absent address = record { code = 13; address = address; value = 0; enables = 0; line = true; «addon_line» = true; changed = 0 }
 
--- the same answer with the line high
+-- the same answer with PCI's line high, with the Add-On's, with both
 abbrev pub high : Answer → Answer
-high a = record { code = a .code; address = a .address; value = a .value; enables = a .enables; line = true; changed = a .changed }
+high a = record { code = a .code; address = a .address; value = a .value; enables = a .enables; line = true; «addon_line» = a .«addon_line»; changed = a .changed }
+
+abbrev pub addonHigh : Answer → Answer
+addonHigh a = record { code = a .code; address = a .address; value = a .value; enables = a .enables; line = a .line; «addon_line» = true; changed = a .changed }
+
+abbrev pub bothHigh : Answer → Answer
+bothHigh a = high (addonHigh a)
 
 -- the same answer with marks that changed
 abbrev pub turning : ℕ → Answer → Answer
-turning changed a = record { code = a .code; address = a .address; value = a .value; enables = a .enables; line = a .line; changed = changed }
+turning changed a = record { code = a .code; address = a .address; value = a .value; enables = a .enables; line = a .line; «addon_line» = a .«addon_line»; changed = changed }
 
 -- ---- the table
 
@@ -153,7 +159,7 @@ marked =
     ∷ example (nineSteps 0x3FFC ++ writeCycle ∷ []) (ok ∷ ok ∷ ok ∷ ok ∷ moves 0x3FFC 7 0xF ∷ [])
     ∷ example
     (nineSteps 0x4000 ++ writeCycle ∷ writeCycle ∷ pciWrite 0x38 0x00100000 ∷ writeCycle ∷ [])
-    (ok ∷ ok ∷ ok ∷ ok ∷ absent 0x4000 ∷ high (refuses 11) ∷ ok ∷ absent 0x4000 ∷ [])
+    (ok ∷ ok ∷ ok ∷ ok ∷ absent 0x4000 ∷ bothHigh (refuses 11) ∷ addonHigh ok ∷ absent 0x4000 ∷ [])
     -- 10: three words held, then four
     ∷ example
     (pciWrite 0x28 16 ∷ pciWrite 0x3C 0x600 ∷ addonWrite 0x20 1 ∷ addonWrite 0x20 2 ∷ addonWrite 0x20 3 ∷ writeCycle ∷ addonWrite 0x20 4

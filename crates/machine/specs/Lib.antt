@@ -9,7 +9,7 @@ pub mod Fifos
 pub mod Window
 pub mod Mcsr
 pub mod Cycles
-pub mod Intcsr
+pub mod Interrupts
 pub mod Codes
 pub mod Code
 pub mod Step

@@ -1,4 +1,4 @@
--- INTCSR and MCSR: what MCSR keeps, and its status.
+-- INTCSR and MCSR, Ask 3: what MCSR keeps, its status, and what AGCSTS shows.
 use Prim.Native.Nat.{ℕ, _+_, _*_, _^_}
 use mathlib.Core.Bool.{cond}
 use mathlib.Core.List.{List}
@@ -7,7 +7,7 @@ use lib.Bits.{bitOr}
 use Rattle.machine.specs.Words.{ones, flag, written}
 use Rattle.machine.specs.Sides.{Side, pci, addon}
 use Rattle.machine.specs.State.{State, lane, held}
-use Rattle.machine.specs.Offsets.{mcsrAt}
+use Rattle.machine.specs.Offsets.{controlAt}
 use Rattle.machine.specs.Access.{Access, writes}
 use Rattle.machine.specs.Fifos.{isEmpty, isFull, amount}
 
@@ -26,7 +26,7 @@ fourBit pci = 13
 fourBit addon = 9
 
 unfoldable pub mcsrAfter : Access → ℕ → ℕ
-mcsrAfter x old = cond (writes pci mcsrAt x) (written mcsrKept old (x .value) (x .enables)) old
+mcsrAfter x old = cond (writes pci controlAt x) (written mcsrKept old (x .value) (x .enables)) old
 
 -- three bits of a FIFO: empty at 2, full at 0; at 1 four or more, counting free places of the one from PCI and words of the one from the Add-On
 unfoldable pub fifoStatus : Side → List ℕ → ℕ
@@ -41,3 +41,7 @@ mcsrStatus st =
 -- as it is read: the kept bits and the status; in form the command bits and all others are zero
 unfoldable pub mcsrRead : State → ℕ
 mcsrRead st = bitOr (st .mcsr) (mcsrStatus st)
+
+-- AGCSTS (Ask 3) holds nothing: it reads the bits of both FIFOs, those of the one from PCI in the higher places, and zero elsewhere
+unfoldable pub agcstsRead : State → ℕ
+agcstsRead st = bitOr (fifoStatus pci (held pci st) * 2 ^ 3) (fifoStatus addon (held addon st))

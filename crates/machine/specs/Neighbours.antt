@@ -5,7 +5,7 @@ use lib.ListN.{set, replicate}
 use Rattle.machine.specs.State.{State, Lane, resetState, resetLane}
 use Rattle.machine.specs.Window.{zeroWords}
 use Rattle.machine.specs.Run.{run}
-use Rattle.machine.specs.Examples.{Example, MeetsTable, stepBy, pciRead, pciWrite, addonRead, addonWrite, writeCycle, readCycle, says, ok, moves, refuses, absent, high, turning, example}
+use Rattle.machine.specs.Examples.{Example, MeetsTable, stepBy, pciRead, pciWrite, addonRead, addonWrite, writeCycle, readCycle, says, ok, moves, refuses, absent, high, addonHigh, bothHigh, turning, nineSteps, example}
 use Rattle.machine.specs.declared.Step.{Step}
 use Rattle.machine.specs.declared.Answer.{Answer}
 
@@ -21,13 +21,18 @@ laneBy words address count = record { words = words; address = address; count = 
 -- a state with no mailbox byte stored
 abbrev pub stateBy : Lane → Lane → ℕ → ℕ → State
 stateBy fromPci fromAddon intcsr mcsr =
-    record { mail = replicate 8 0; marks = 0; fromPci = fromPci; fromAddon = fromAddon; intcsr = intcsr; mcsr = mcsr }
+    record { mail = replicate 8 0; marks = 0; fromPci = fromPci; fromAddon = fromAddon; intcsr = intcsr; mcsr = mcsr; aint = 0 }
 
--- an abort stands, so the interrupt line is high
+-- the same with something in AINT
+abbrev pub withAint : ℕ → State → State
+withAint aint st =
+    record { mail = st .mail; marks = st .marks; fromPci = st .fromPci; fromAddon = st .fromAddon; intcsr = st .intcsr; mcsr = st .mcsr; aint = aint }
+
+-- an abort stands in INTCSR, so PCI's line is high
 abbrev pub abortStanding : State
 abortStanding = stateBy resetLane resetLane 0x100000 0
 
--- ---- codes 1 and 2: of a read, a cycle, a chip reset and an unknown kind; the line is zero for 1, the state's for 2
+-- ---- codes 1 and 2: of a read, a cycle, a chip reset and an unknown kind; both lines are zero for 1, the state's for 2
 
 abbrev pub anyKinds : List Step
 anyKinds = pciRead 0x34 ∷ writeCycle ∷ stepBy 6 0 0 0 ∷ stepBy 7 0 0 0 ∷ []
@@ -44,12 +49,15 @@ outOfForm =
     ∷ stateBy resetLane resetLane 0x100000 0x800 ∷ stateBy resetLane resetLane 0x100000 0x80 ∷ stateBy resetLane resetLane 0x100000 0x08000000 ∷ []
 
 abbrev pub formCases : List Example
-formCases = map (λ st. case st 0 zeroWords anyKinds (sameFour (refuses 1))) outOfForm
+formCases =
+    map (λ st. case (withAint 0x200000 st) 0 zeroWords anyKinds (sameFour (refuses 1))) outOfForm
+    -- AINT holds no 5, 13, 20, 22 and 23
+    ++ map (λ aint. case (withAint aint abortStanding) 0 zeroWords anyKinds (sameFour (refuses 1))) (0x200020 ∷ 0x202000 ∷ 0x300000 ∷ 0x600000 ∷ 0xA00000 ∷ [])
 
 -- as full as form allows, so a chip reset is done; the window's faults; the largest window and the empty one
 abbrev pub windowCases : List Example
 windowCases =
-    case (stateBy (laneBy (replicate 8 0) 0xFFFFFFFC 0x03FFFFFF) (laneBy (replicate 8 0) 4 1) 0x3FDF1F 0xF700) 0 zeroWords (stepBy 6 0xFF 99 5 ∷ []) (ok ∷ [])
+    case (withAint 0x2FDF1F (stateBy (laneBy (replicate 8 0) 0xFFFFFFFC 0x03FFFFFF) (laneBy (replicate 8 0) 4 1) 0x3FDF1F 0xF700)) 0 zeroWords (stepBy 6 0xFF 99 5 ∷ []) (ok ∷ [])
     ∷ case abortStanding 1 zeroWords anyKinds (sameFour (high (refuses 2)))
     ∷ case abortStanding 2 zeroWords anyKinds (sameFour (high (refuses 2)))
     ∷ case abortStanding 0 (replicate 16385 0) anyKinds (sameFour (high (refuses 2)))
@@ -68,7 +76,7 @@ windowCases =
     -- a read cycle over a window that begins at 100: done, no memory there, abort stands; nothing more is let in
     ∷ case (stateBy (laneBy [] 0x100 8) resetLane 0 0x4000) 0x100 (7 ∷ [])
     (readCycle ∷ readCycle ∷ readCycle ∷ addonRead 0x20 ∷ addonRead 0x20 ∷ pciRead 0x2C ∷ pciRead 0x30 ∷ [])
-    (moves 0x100 7 0xF ∷ absent 0x104 ∷ high (refuses 11) ∷ high (says 7) ∷ high (refuses 8) ∷ high (says 0x104) ∷ high (says 4) ∷ [])
+    (moves 0x100 7 0xF ∷ absent 0x104 ∷ bothHigh (refuses 11) ∷ bothHigh (says 7) ∷ bothHigh (refuses 8) ∷ bothHigh (says 0x104) ∷ bothHigh (says 4) ∷ [])
     -- the read address wraps too
     ∷ case (stateBy (laneBy [] 0xFFFFFFFC 8) resetLane 0 0x4000) 0xFFFFFFFC (1 ∷ 2 ∷ []) (readCycle ∷ readCycle ∷ pciRead 0x2C ∷ [])
     (moves 0xFFFFFFFC 1 0xF ∷ moves 0 2 0xF ∷ says 4 ∷ [])
@@ -84,7 +92,7 @@ accessCases =
     example (stepBy 7 0 0 0 ∷ stepBy 0xFFFFFFFF 0xFF 99 0 ∷ []) (refuses 3 ∷ refuses 3 ∷ [])
     -- offsets that are not in the side's table, before the enables
     ∷ example
-    (pciRead 0x40 ∷ pciRead 0x01 ∷ pciWrite 0x22 0 ∷ stepBy 0 0x41 16 0 ∷ addonRead 0x24 ∷ addonRead 0x38 ∷ addonWrite 0x3C 0 ∷ addonRead 0x03 ∷ [])
+    (pciRead 0x40 ∷ pciRead 0x01 ∷ pciWrite 0x22 0 ∷ stepBy 0 0x41 16 0 ∷ addonRead 0x24 ∷ addonRead 0x39 ∷ addonWrite 0x40 0 ∷ addonRead 0x03 ∷ [])
     (refuses 4 ∷ refuses 4 ∷ refuses 4 ∷ refuses 4 ∷ refuses 4 ∷ refuses 4 ∷ refuses 4 ∷ refuses 4 ∷ [])
     ∷ example (addonRead 0x28 ∷ addonRead 0x2C ∷ addonRead 0x30 ∷ []) (refuses 4 ∷ refuses 4 ∷ refuses 4 ∷ [])
     -- offsets above FF, whose lowest byte is in the table
@@ -240,8 +248,58 @@ eventCases =
     ∷ case (stateBy resetLane resetLane 0x200000 0x400) 0 [] (pciWrite 0x28 4 ∷ writeCycle ∷ pciWrite 0x38 0 ∷ pciWrite 0x38 0x200000 ∷ []) (high ok ∷ high (refuses 11) ∷ high ok ∷ ok ∷ [])
     ∷ []
 
+-- ---- the Add-On's own registers
+
+abbrev pub addonCases : List Example
+addonCases =
+    -- AINT keeps the same bits as INTCSR, and is not INTCSR; part writes and part reads
+    example
+    (addonWrite 0x38 0xFFFFFFFF ∷ addonRead 0x38 ∷ pciRead 0x38 ∷ stepBy 3 0x38 1 0 ∷ addonRead 0x38 ∷ stepBy 2 0x38 1 0 ∷ stepBy 6 0 0 0 ∷ addonRead 0x38 ∷ pciWrite 0x38 0xFFFFFFFF
+    ∷ addonRead 0x38 ∷ [])
+    (ok ∷ says 0xDF1F ∷ says 0 ∷ ok ∷ says 0xDF00 ∷ says 0 ∷ ok ∷ says 0 ∷ ok ∷ says 0 ∷ [])
+    -- AGCSTS keeps nothing, and shows the FIFO from PCI above the one from the Add-On
+    ∷ example
+    (addonWrite 0x3C 0xF1FFFFFF ∷ addonRead 0x3C ∷ pciWrite 0x20 1 ∷ addonRead 0x3C ∷ addonWrite 0x20 1 ∷ addonWrite 0x20 2 ∷ addonWrite 0x20 3 ∷ addonWrite 0x20 4 ∷ addonRead 0x3C
+    ∷ pciRead 0x3C ∷ pciWrite 0x3C 0xF700 ∷ stepBy 2 0x3C 2 0 ∷ stepBy 2 0x3C 1 0 ∷ [])
+    (ok ∷ says 0x34 ∷ ok ∷ says 0x14 ∷ ok ∷ ok ∷ ok ∷ ok ∷ says 0x12 ∷ says 0xD2 ∷ ok ∷ says 0 ∷ says 0x12 ∷ [])
+    ∷ case (stateBy (laneBy (replicate 8 0) 0 5) (laneBy (replicate 8 0) 0 6) 0 0) 0 [] (addonRead 0x3C ∷ pciRead 0x3C ∷ []) (says 0xB ∷ says 0x19 ∷ [])
+    -- its clears: 26 the FIFO from PCI, 25 the one from the Add-On, 27 every mark; where their byte is enabled
+    ∷ example
+    (pciWrite 0x20 1 ∷ addonWrite 0x20 2 ∷ stepBy 3 0x3C 7 0x06000000 ∷ stepBy 3 0x3C 8 0x04000000 ∷ addonRead 0x3C ∷ addonRead 0x20 ∷ stepBy 3 0x3C 8 0x02000000 ∷ pciRead 0x20 ∷ [])
+    (ok ∷ ok ∷ ok ∷ ok ∷ says 0x30 ∷ refuses 8 ∷ ok ∷ refuses 8 ∷ [])
+    ∷ example
+    (pciWrite 0x08 6 ∷ addonWrite 0x14 7 ∷ stepBy 3 0x3C 7 0x08000000 ∷ pciRead 0x34 ∷ stepBy 3 0x3C 8 0x08000000 ∷ pciRead 0x34 ∷ addonRead 0x08 ∷ [])
+    (turning 0xF00 ok ∷ turning 0xF00000 ok ∷ ok ∷ says 0xF00F00 ∷ ok ∷ says 0 ∷ says 6 ∷ [])
+    -- outgoing mailbox 2 byte 1 is chosen: PCI fills it; a refill, another byte, the card's own read and a clear are no event
+    ∷ example
+    (addonWrite 0x38 0x15 ∷ stepBy 1 0x04 13 0 ∷ stepBy 1 0x04 2 0 ∷ addonRead 0x38 ∷ stepBy 3 0x38 4 0x10000 ∷ pciWrite 0x04 0 ∷ addonRead 0x04 ∷ pciWrite 0x3C 0x08000000 ∷ addonRead 0x38 ∷ [])
+    (ok ∷ turning 0xD0 ok ∷ turning 0x20 (addonHigh ok) ∷ addonHigh (says 0x810015) ∷ ok ∷ ok ∷ turning 0xF0 ok ∷ ok ∷ says 0x15 ∷ [])
+    -- incoming mailbox 4 byte 2: PCI empties it; a poll and the card's own write are no event, nor is one that is not enabled
+    ∷ example
+    (addonWrite 0x38 0x1E00 ∷ addonWrite 0x1C 0 ∷ pciRead 0x1C ∷ addonRead 0x38 ∷ stepBy 3 0x38 4 0x20000 ∷ pciRead 0x1C ∷ addonRead 0x38 ∷ stepBy 3 0x38 2 0xE00 ∷ addonWrite 0x1C 0 ∷ pciRead 0x1C
+    ∷ addonRead 0x38 ∷ [])
+    (ok ∷ turning 0xF0000000 ok ∷ turning 0xF0000000 (addonHigh ok) ∷ addonHigh (says 0x821E00) ∷ ok ∷ ok ∷ says 0x1E00 ∷ ok ∷ turning 0xF0000000 ok ∷ turning 0xF0000000 ok
+    ∷ says 0xE00 ∷ [])
+    -- code 13 sets INTCSR 20 and AINT 21; each is cleared by its own side; AINT's stops no cycle
+    ∷ example
+    (nineSteps 0x4000 ++ writeCycle ∷ addonRead 0x38 ∷ pciRead 0x38 ∷ pciWrite 0x38 0x00100000 ∷ pciWrite 0x24 0 ∷ writeCycle ∷ stepBy 3 0x38 4 0x00300000 ∷ addonRead 0x38 ∷ [])
+    (ok ∷ ok ∷ ok ∷ ok ∷ absent 0x4000 ∷ bothHigh (says 0xA00000) ∷ bothHigh (says 0x900000) ∷ addonHigh ok ∷ addonHigh ok ∷ addonHigh (moves 0 7 0xF) ∷ ok ∷ says 0x40000 ∷ [])
+    -- cycles that use their counts up: 18 and 19, whose lines 14 and 15 enable
+    ∷ case (withAint 0x4000 (stateBy (laneBy [] 4 4) (laneBy (7 ∷ []) 0 4) 0 0x4400)) 0 (5 ∷ 6 ∷ []) (readCycle ∷ writeCycle ∷ addonRead 0x38 ∷ [])
+    (moves 4 6 0xF ∷ addonHigh (moves 0 7 0xF) ∷ addonHigh (says 0x8C4000) ∷ [])
+    -- a flag without its own enable is no line
+    ∷ case (withAint 0xE0F1F resetState) 0 [] (pciRead 0x34 ∷ []) (says 0 ∷ [])
+    ∷ case (withAint 0xD1F0F resetState) 0 [] (pciRead 0x34 ∷ []) (says 0 ∷ [])
+    ∷ case (withAint 0xB4F0F resetState) 0 [] (pciRead 0x34 ∷ []) (says 0 ∷ [])
+    ∷ case (withAint 0x78F0F resetState) 0 [] (pciRead 0x34 ∷ []) (says 0 ∷ [])
+    ∷ case (withAint 0x10010 resetState) 0 [] (pciRead 0x34 ∷ []) (addonHigh (says 0) ∷ [])
+    ∷ case (withAint 0x21000 resetState) 0 [] (pciRead 0x34 ∷ []) (addonHigh (says 0) ∷ [])
+    ∷ case (withAint 0x44000 resetState) 0 [] (pciRead 0x34 ∷ []) (addonHigh (says 0) ∷ [])
+    ∷ case (withAint 0x88000 resetState) 0 [] (pciRead 0x34 ∷ []) (addonHigh (says 0) ∷ [])
+    ∷ []
+
 abbrev pub neighbours : List Example
-neighbours = formCases ++ windowCases ++ accessCases ++ mailCases ++ cycleCases ++ eventCases
+neighbours = formCases ++ windowCases ++ accessCases ++ mailCases ++ cycleCases ++ eventCases ++ addonCases
 
 -- `neighbours-hold`: the machine meets these too
 abbrev pub NeighboursHold : Type 0

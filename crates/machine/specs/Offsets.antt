@@ -38,16 +38,18 @@ countAt addon = 0x28
 abbrev pub statusAt : ℕ
 statusAt = 0x34
 
-abbrev pub intcsrAt : ℕ
-intcsrAt = 0x38
+-- the interrupt register of either side, INTCSR of PCI and AINT of the Add-On (Ask 3)
+abbrev pub interruptsAt : ℕ
+interruptsAt = 0x38
 
-abbrev pub mcsrAt : ℕ
-mcsrAt = 0x3C
+-- the control register of either side, MCSR of PCI and AGCSTS of the Add-On
+abbrev pub controlAt : ℕ
+controlAt = 0x3C
 
--- PCI has a register at every fourth offset from 00 to 3C; the Add-On has the mailboxes, the FIFO port and the status
+-- PCI has a register at every fourth offset from 00 to 3C; the Add-On has the mailboxes, the FIFO port, the status and its own two registers
 abbrev pub inTable : Side → ℕ → Bool
 inTable pci offset = ltb offset 0x40 && eqb (offset % 4) 0
-inTable addon offset = isMailbox offset || eqb offset fifoPort || eqb offset statusAt
+inTable addon offset = isMailbox offset || eqb offset fifoPort || eqb offset statusAt || eqb offset interruptsAt || eqb offset controlAt
 
 -- read-only to a side: the mailboxes that it does not own, and the status
 abbrev pub isReadOnly : Side → ℕ → Bool

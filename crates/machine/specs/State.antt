@@ -20,6 +20,7 @@ pub record State : Type 0 where
   pub fromAddon : Lane
   pub intcsr : ℕ
   pub mcsr : ℕ
+  pub aint : ℕ
 
 abbrev pub lane : Side → State → Lane
 lane pci st = st .fromPci
@@ -34,4 +35,4 @@ abbrev pub resetLane : Lane
 resetLane = record { words = []; address = 0; count = 0 }
 
 abbrev pub resetState : State
-resetState = record { mail = replicate 8 0; marks = 0; fromPci = resetLane; fromAddon = resetLane; intcsr = 0; mcsr = 0 }
+resetState = record { mail = replicate 8 0; marks = 0; fromPci = resetLane; fromAddon = resetLane; intcsr = 0; mcsr = 0; aint = 0 }

@@ -5,16 +5,16 @@ use mathlib.Core.List.{List}
 use lib.Dec.{eqb}
 use lib.ListN.{length, getD}
 use Rattle.machine.specs.Words.{bit, flag, byteMask, mask, cleared, raised, shown, merged, written, only}
-use Rattle.machine.specs.Sides.{pci, addon, other, Party, sideOf}
+use Rattle.machine.specs.Sides.{Side, pci, addon, other, Party, sideOf}
 use Rattle.machine.specs.State.{State, lane, held, resetState}
 use Rattle.machine.specs.Access.{Access, accessOf, Kind, reading, writing, cycle, chipReset, unknown, isReset, cycles}
-use Rattle.machine.specs.Offsets.{isMailbox, mailbox, fifoPort, addressAt, countAt, statusAt, intcsrAt}
+use Rattle.machine.specs.Offsets.{isMailbox, mailbox, fifoPort, addressAt, countAt, statusAt, interruptsAt}
 use Rattle.machine.specs.Mailboxes.{marksAt, changes, marksAfter, mailAfter}
 use Rattle.machine.specs.Fifos.{front}
 use Rattle.machine.specs.Window.{placeOf, isWindowOutOfForm}
-use Rattle.machine.specs.Mcsr.{mcsrAfter, fifoStatus, mcsrStatus, mcsrRead}
+use Rattle.machine.specs.Mcsr.{mcsrAfter, fifoStatus, mcsrStatus, mcsrRead, agcstsRead}
 use Rattle.machine.specs.Cycles.{lowEnables, isReady, cycleWord, stored, addressAfter, countAfter, laneAfter}
-use Rattle.machine.specs.Intcsr.{intcsrWritten, outgoingEvent, incomingEvent, intcsrAfter, intcsrAborted, lineOf, intcsrRead}
+use Rattle.machine.specs.Interrupts.{interrupts, interruptsWritten, outgoingEvent, incomingEvent, notified, interruptsAfter, interruptsAborted, lineOf, interruptsRead}
 use Rattle.machine.specs.Codes.{done, stateOutOfForm, noMemoryThere, notAFrameLine}
 use Rattle.machine.specs.Code.{codeOf, isOutOfForm, isUnknownOffset, hasBadEnables, isPartFifoAccess, isReadOnlyWrite, isFullOrEmpty, isTransferOff, isCountZero, isAbortStanding, isNotReady, isNoMemory}
 use Rattle.machine.specs.declared.Step.{Step}
@@ -35,21 +35,27 @@ nothing = record { address = 0; value = 0; enables = 0; changed = 0 }
 abbrev pub showing : ℕ → ℕ → Reply
 showing value changed = record { address = 0; value = value; enables = 0; changed = changed }
 
--- The registers but the FIFO port, which is read apart; those of the Add-On's table are the same ones. The last is MCSR: by code 4 no other offset comes here.
-unfoldable pub register : State → ℕ → ℕ
-register st offset =
+-- the control register of a side as it is read
+abbrev pub controlRead : Side → State → ℕ
+controlRead pci st = mcsrRead st
+controlRead addon st = agcstsRead st
+
+-- The registers but the FIFO port, which is read apart. Mailboxes and status are the same ones to both sides, 38 and 3C each side's own.
+-- By code 4 no other offset comes to the last.
+unfoldable pub register : Side → State → ℕ → ℕ
+register side st offset =
     cond (isMailbox offset) (getD (st .mail) (mailbox offset) 0)
     (cond (eqb offset (addressAt addon)) (st .fromAddon .address)
     (cond (eqb offset (countAt addon)) (st .fromAddon .count)
     (cond (eqb offset (addressAt pci)) (st .fromPci .address)
     (cond (eqb offset (countAt pci)) (st .fromPci .count)
     (cond (eqb offset statusAt) (st .marks)
-    (cond (eqb offset intcsrAt) (intcsrRead (st .intcsr))
-    (mcsrRead st)))))))
+    (cond (eqb offset interruptsAt) (interruptsRead (interrupts side st))
+    (controlRead side st)))))))
 
 -- a read: at the port the front word of the FIFO that the other side feeds, whole by code 6; the enabled bytes of any other register
 unfoldable pub readValue : Party → State → Access → ℕ
-readValue party st x = cond (eqb (x .offset) fifoPort) (front (held (other (sideOf party)) st)) (shown (register st (x .offset)) (x .enables))
+readValue party st x = cond (eqb (x .offset) fifoPort) (front (held (other (sideOf party)) st)) (shown (register (sideOf party) st (x .offset)) (x .enables))
 
 -- A done step: a read shows data, a cycle its address before the step, its word and the lowest n enables; writes and a reset nothing.
 -- A read and a write tell which marks they changed (Ask 2).
@@ -75,7 +81,7 @@ unfoldable pub replyOf : State → ℕ → List ℕ → Access → ℕ → Reply
 replyOf st start memory x code =
     cond (eqb code done) (doneReply (x .kind) st start memory x) (cond (eqb code noMemoryThere) (abortedReply (x .kind) st) nothing)
 
--- the line of the state that is left; for code 1, whose state cannot be trusted, it is low
+-- the lines of the state that is left; for code 1, whose state cannot be trusted, they are low
 unfoldable pub answered : State → ℕ → Reply → Answer
 answered after code r =
     record {
@@ -84,6 +90,7 @@ answered after code r =
       value = r .value;
       enables = r .enables;
       line = not (eqb code stateOutOfForm) && lineOf (after .intcsr);
+      «addon_line» = not (eqb code stateOutOfForm) && lineOf (after .aint);
       changed = r .changed;
     }
 
@@ -101,11 +108,12 @@ doneState st x word =
       marks = marksAfter x (st .marks);
       fromPci = laneAfter pci x word (st .fromPci);
       fromAddon = laneAfter addon x word (st .fromAddon);
-      intcsr = intcsrAfter (x .kind) st x;
+      intcsr = interruptsAfter pci (x .kind) st x;
       mcsr = mcsrAfter x (st .mcsr);
+      aint = interruptsAfter addon (x .kind) st x;
     }
 
--- code 13: flag 20 of INTCSR goes up, and all else stays
+-- code 13: the abort flag of either interrupt register goes up, and all else stays
 unfoldable pub abortedState : State → State
 abortedState st =
     record {
@@ -113,8 +121,9 @@ abortedState st =
       marks = st .marks;
       fromPci = st .fromPci;
       fromAddon = st .fromAddon;
-      intcsr = intcsrAborted (st .intcsr);
+      intcsr = interruptsAborted pci (st .intcsr);
       mcsr = st .mcsr;
+      aint = interruptsAborted addon (st .aint);
     }
 
 -- a refusal by any code but 13 leaves the state as it was
@@ -146,5 +155,5 @@ stepOf st start memory s = let x = accessOf s in respond st start memory x (code
 
 -- a proof that says `unfolding computing` computes a step of given numbers: this opens every rule
 unfoldable pub computing : ℕ
-unfolding bit flag byteMask mask cleared raised shown merged written only marksAt changes marksAfter mailAfter placeOf isWindowOutOfForm mcsrAfter fifoStatus mcsrStatus mcsrRead lowEnables isReady cycleWord stored addressAfter countAfter intcsrWritten outgoingEvent incomingEvent intcsrAfter intcsrAborted lineOf intcsrRead codeOf isOutOfForm isUnknownOffset hasBadEnables isPartFifoAccess isReadOnlyWrite isFullOrEmpty isTransferOff isCountZero isAbortStanding isNotReady isNoMemory register readValue doneReply abortedReply replyOf answered notAFrame doneState abortedState stateAfter memoryAfter respond stepOf
+unfolding bit flag byteMask mask cleared raised shown merged written only marksAt changes marksAfter mailAfter placeOf isWindowOutOfForm mcsrAfter fifoStatus mcsrStatus mcsrRead agcstsRead lowEnables isReady cycleWord stored addressAfter countAfter interruptsWritten outgoingEvent incomingEvent notified interruptsAfter interruptsAborted lineOf interruptsRead codeOf isOutOfForm isUnknownOffset hasBadEnables isPartFifoAccess isReadOnlyWrite isFullOrEmpty isTransferOff isCountZero isAbortStanding isNotReady isNoMemory register readValue doneReply abortedReply replyOf answered notAFrame doneState abortedState stateAfter memoryAfter respond stepOf
 computing = 0

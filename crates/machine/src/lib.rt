@@ -18,7 +18,7 @@ pub struct Step {
     pub value: u32,
 }
 
-// An answer, in four numbers, the level of the interrupt line once the step is over, and the marks that the step changed, as bits of
+// An answer, in four numbers, the levels of both interrupt lines once the step is over, and the marks that the step changed, as bits of
 // offset 34, which the log does not show; `value` is its data.
 pub struct Answer {
     pub code: u32,
@@ -26,5 +26,6 @@ pub struct Answer {
     pub value: u32,
     pub enables: u32,
     pub line: bool,
+    pub addon_line: bool,
     pub changed: u32,
 }

@@ -13,9 +13,10 @@ pub const READ_COUNT: u32 = 0x30;
 
 pub const STATUS: u32 = 0x34;
 
-pub const INTCSR: u32 = 0x38;
+// Each side's own: INTCSR of PCI and AINT of the Add-On, MCSR of PCI and AGCSTS of the Add-On.
+pub const INTERRUPTS: u32 = 0x38;
 
-pub const MCSR: u32 = 0x3C;
+pub const CONTROL: u32 = 0x3C;
 
 // the first offset past PCI's table
 pub const END: u32 = 0x40;

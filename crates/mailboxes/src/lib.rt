@@ -80,7 +80,7 @@ pub fn changes(s: Step, marks: u32) -> u32
 pub fn marks_after(s: Step, marks: u32) -> u32
     ensures { λ r. ⌜ r ≡ marksAfter (accessOf s) marks ⌝ }
 {
-    if commands::commands(commands::CLEAR_MARKS, s) {
+    if commands::clears_marks(s) {
         return 0;
     }
     marks ^ changes(s, marks)

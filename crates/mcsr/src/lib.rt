@@ -1,4 +1,4 @@
-// MCSR: what it keeps, and its status.
+// The control registers, MCSR of PCI and AGCSTS of the Add-On: what MCSR keeps, and the status that both show.
 ghost use mathlib.Core.Path.{_≡_};
 ghost use mathlib.Core.Bool.{cond};
 ghost use mathlib.Core.List.{List};
@@ -6,7 +6,7 @@ ghost use Prim.Native.Nat.{ℕ};
 ghost use lib.ListN.{length};
 ghost use Rattle.machine.specs.Sides as sides;
 ghost use Rattle.machine.specs.Access.{accessOf};
-ghost use Rattle.machine.specs.Mcsr.{fifoStatus, mcsrAfter, mcsrRead};
+ghost use Rattle.machine.specs.Mcsr.{fifoStatus, mcsrAfter, mcsrRead, agcstsRead};
 ghost use Rattle.bank.specs.Bank.{stateIn};
 use bank::Bank;
 use fifo::WordFill;
@@ -26,7 +26,7 @@ pub const WRITE_FOUR: u32 = 9;
 
 pub const READ_FOUR: u32 = 13;
 
-// Status: the counts, then the FIFO from the Add-On above the FIFO from PCI, each empty, four or more, full.
+// Status: the counts, then one FIFO above the other, each empty, four or more, full.
 const WRITE_COUNT_ZERO: u32 = 0x80;
 
 const READ_COUNT_ZERO: u32 = 0x40;
@@ -37,14 +37,14 @@ const FOUR: u32 = 0x02;
 
 const FULL: u32 = 0x01;
 
-// How far above the other the status of the FIFO from the Add-On stands: three bits.
+// How far above the other the status of a FIFO stands: three bits.
 const ABOVE: u32 = 8;
 
 // MCSR after a done step.
 pub fn mcsr_after(s: Step, old: u32) -> u32
     ensures { λ r. ⌜ r ≡ mcsrAfter (accessOf s) old ⌝ }
 {
-    if (s.kind == kinds::PCI_WRITE) & (s.offset == offsets::MCSR) {
+    if (s.kind == kinds::PCI_WRITE) & (s.offset == offsets::CONTROL) {
         return word::written(KEPT, old, s.value, s.enables);
     }
     old
@@ -83,4 +83,13 @@ pub fn mcsr_read(b: Bank) -> u32
     let out = from_addon_status(b.addon_fill);
     let back = from_pci_status(b.pci_fill);
     b.mcsr | (write_zero | read_zero | (out * ABOVE | back))
+}
+
+// AGCSTS as it is read: the two FIFOs the other way round.
+pub fn agcsts_read(b: Bank) -> u32
+    ensures { λ r. ⌜ ((mail pci addon : List ℕ) → r ≡ agcstsRead (stateIn b mail pci addon)) ⌝ }
+{
+    let back = from_pci_status(b.pci_fill);
+    let out = from_addon_status(b.addon_fill);
+    back * ABOVE | out
 }

@@ -1,7 +1,7 @@
 -- Only code 13 sets the master abort bit.
 use Prim.Native.Nat.{ℕ, _≤_}
 use mathlib.Core.Path.{_≡_, refl, ap, _∙_}
-use mathlib.Core.Bool.{Bool, true, false, not, _&&_, _||_, and-false}
+use mathlib.Core.Bool.{Bool, true, false, not, _&&_, _||_, and-false, or-true}
 use mathlib.Core.List.{List}
 use native.Mathlib.Omega.{arith}
 use lib.Dec.{eqb}
@@ -12,7 +12,7 @@ use Rattle.machine.specs.Sides.{Side, pci, addon, either}
 use Rattle.machine.specs.State.{State, lane}
 use Rattle.machine.specs.Access.{Access, accessOf, cycles}
 use Rattle.machine.specs.Window.{inside}
-use Rattle.machine.specs.Intcsr.{abortIn}
+use Rattle.machine.specs.Interrupts.{abortIn}
 use Rattle.machine.specs.Code.{tests, isAbortStanding, isNoMemory, testOf}
 use Rattle.machine.specs.Step.{stepOf, Outcome}
 use Rattle.promises.specs.Theorems.{OnlyAborts}
@@ -20,6 +20,7 @@ use Rattle.machine.specs.declared.Step.{Step}
 use Rattle.laws.proofs.Tests.{neither, or-left, and-left, and-at}
 use Rattle.laws.proofs.Bits.{bit-zero}
 use Rattle.promises.proofs.Refused.{lowest, refused, aborted}
+use Rattle.promises.proofs.Readings.{kept-bits}
 use Rattle.promises.proofs.Events.{event-rule}
 use Rattle.promises.proofs.Registers.{reset-rule}
 
@@ -62,20 +63,30 @@ module _ (st : State) (start : ℕ) (memory : List ℕ) (s : Step) where
   stays false c = refl
 
   by-code : (done absent reset : Bool) → eqb (o .answer .code) 0 ≡ done → eqb (o .answer .code) 13 ≡ absent → eqb (s .kind) 6 ≡ reset
-      → (not (bit (st .intcsr) 20) && bit (o .state .intcsr) 20) ≡ absent
+      → ((not (bit (st .intcsr) 20) && bit (o .state .intcsr) 20) ≡ absent) × ((not (bit (st .aint) 21) && bit (o .state .aint) 21) ≡ (not (bit (st .aint) 21) && absent))
   by-code true true reset p q r = absurd (omega (arith, eqb-true (o .answer .code) 0 p, eqb-true (o .answer .code) 13 q))
   by-code true false true p q r =
-      let after = ap (λ (t : Outcome). bit (t .state .intcsr) 20) (reset-rule st start memory s (eqb-true (o .answer .code) 0 p) r) ∙ bit-zero 20 in
-      rw after (and-false (not (bit (st .intcsr) 20)))
+      let all = reset-rule st start memory s (eqb-true (o .answer .code) 0 p) r in
+      let after = ap (λ (t : Outcome). bit (t .state .intcsr) 20) all ∙ bit-zero 20 in
+      let also = ap (λ (t : Outcome). bit (t .state .aint) 21) all ∙ bit-zero 21 in
+      (rw after (and-false (not (bit (st .intcsr) 20))), rw also)
   by-code true false false p q r =
-      rw (event-rule 20 (omega arith) (omega arith) st start memory s (eqb-true (o .answer .code) 0 p) r) (stays (bit (st .intcsr) 20) _)
+      let zero = eqb-true (o .answer .code) 0 p in (
+        rw (event-rule pci 20 (omega arith) (kept-bits 20 (omega arith) .pciFlags) st start memory s zero r) (stays (bit (st .intcsr) 20) _),
+        rw (event-rule addon 21 (omega arith) (kept-bits 21 (omega arith) .addonFlags) st start memory s zero r, and-false) (stays (bit (st .aint) 21) _),
+      )
   by-code false true reset p q r =
       let e = eqb-true (o .answer .code) 13 q in
-      rw (aborted st start memory s e .0 .intcsr 20, clear-before e)
+      let a = aborted st start memory s e .0 in
+      (rw (a .intcsr 20, clear-before e), rw (a .aint 21, or-true))
   by-code false false reset p q r =
-      rw (ap (λ (t : Outcome). bit (t .state .intcsr) 20) (refused st start memory s p q)) (never-both (bit (st .intcsr) 20))
+      let same = refused st start memory s p q in (
+        rw (ap (λ (t : Outcome). bit (t .state .intcsr) 20) same) (never-both (bit (st .intcsr) 20)),
+        rw (ap (λ (t : Outcome). bit (t .state .aint) 21) same, and-false) (never-both (bit (st .aint) 21)),
+      )
 
 pub only-aborts : OnlyAborts
 only-aborts st start memory s =
     let o = stepOf st start memory s in
-    by-code st start memory s (eqb (o .answer .code) 0) (eqb (o .answer .code) 13) (eqb (s .kind) 6) refl refl refl
+    let both = by-code st start memory s (eqb (o .answer .code) 0) (eqb (o .answer .code) 13) (eqb (s .kind) 6) refl refl refl in
+    record { intcsr = both .0; aint = both .1 }

@@ -10,7 +10,7 @@ use lib.Bits.{bitOr, and-zero-l, or-zero-l}
 use lib.ListN.{length, getD}
 use borrow.Author.Tests.{ne-eqb, lt-ltb, le-ltb, ltb-true, ltb-false, lt-leb, le-leb, leb-true, leb-false}
 use Rattle.machine.specs.Words.{bit, ones, mask, cleared, shown, merged}
-use Rattle.machine.specs.Sides.{pci, addon}
+use Rattle.machine.specs.Sides.{Side, pci, addon}
 use Rattle.machine.specs.State.{State}
 use Rattle.machine.specs.Access.{kindOf, accessOf}
 use Rattle.machine.specs.Offsets.{inTable, isReadOnly}
@@ -18,7 +18,7 @@ use Rattle.machine.specs.Mailboxes.{changes}
 use Rattle.machine.specs.Fifos.{front}
 use Rattle.machine.specs.Window.{placeOf}
 use Rattle.machine.specs.Cycles.{lowEnables, isReady, cycleWord}
-use Rattle.machine.specs.Intcsr.{lineOf}
+use Rattle.machine.specs.Interrupts.{lineOf}
 use Rattle.machine.specs.Code.{codeOf, tests}
 use Rattle.machine.specs.Step.{register, readValue, Reply, nothing, showing, doneReply, abortedReply, replyOf, answered, respond, stepOf}
 use Rattle.promises.specs.Account.{byteOf}
@@ -59,7 +59,7 @@ module _ (offset : ℕ) where
   table-at =
       record {
         inPci = by-list (inTable pci) pciOffsets refl refl (λ h. rw (le-ltb offset 0x40 h));
-        inAddon = by-list (inTable addon) addonOffsets refl refl (λ h. simp (le-ltb offset 0x20 (omega arith), ne-eqb offset 0x20 (λ q. omega arith), ne-eqb offset 0x34 (λ q. omega arith)));
+        inAddon = by-list (inTable addon) addonOffsets refl refl (λ h. simp (le-ltb offset 0x20 (omega arith), ne-eqb offset 0x20 (λ q. omega arith), ne-eqb offset 0x34 (λ q. omega arith), ne-eqb offset 0x38 (λ q. omega arith), ne-eqb offset 0x3C (λ q. omega arith)));
         readOnlyToPci = by-list (isReadOnly pci) pciReadOnly refl refl (λ h. simp (le-ltb offset 0x20 (omega arith), ne-eqb offset 0x34 (λ q. omega arith)));
         readOnlyToAddon = by-list (isReadOnly addon) addonReadOnly refl refl (λ h. simp (le-ltb offset 0x20 (omega arith), ne-eqb offset 0x34 (λ q. omega arith)));
       }
@@ -72,7 +72,7 @@ unfolding register
 register-table st =
     record {
       mail =
-          λ i h.
+          λ side i h.
           let z : 4 * i % 4 ≡ 0 = omega arith in
           let q : 4 * i / 4 ≡ i = omega arith in
           rw (lt-ltb (4 * i) 0x20 (omega arith), z, q);
@@ -80,9 +80,11 @@ register-table st =
       writeCount = refl;
       readAddress = refl;
       readCount = refl;
-      status = refl;
+      status = λ side. refl;
       intcsr = refl;
       mcsr = refl;
+      aint = refl;
+      agcsts = refl;
     }
 
 -- ---- cycles
@@ -133,7 +135,10 @@ pub line-rule : LineRule
 unfolding stepOf respond answered
 line-rule st start memory s =
     let o = stepOf st start memory s in
-    line-cond (eqb (o .answer .code) 1) (lineOf (o .state .intcsr)) ∙ (λ i. cond (eqb (o .answer .code) 1) false (line-high (o .state .intcsr) i))
+    record {
+      line = line-cond (eqb (o .answer .code) 1) (lineOf (o .state .intcsr)) ∙ (λ i. cond (eqb (o .answer .code) 1) false (line-high (o .state .intcsr) i));
+      addonLine = line-cond (eqb (o .answer .code) 1) (lineOf (o .state .aint)) ∙ (λ i. cond (eqb (o .answer .code) 1) false (line-high (o .state .aint) i));
+    }
 
 -- ---- data
 
@@ -193,14 +198,14 @@ module _ (st : State) (start : ℕ) (memory : List ℕ) (s : Step) where
   by-number : (k : ℕ) → Reply
   by-number k = record { address = getD (addresses st) k 0; value = getD (values st start memory s) k 0; enables = getD (lowestEnables st) k 0; changed = cond (ltb k 4) (changes (accessOf s) (st .marks)) 0 }
 
-  shown-is : shown (register st (s .offset)) (s .enables) ≡ byteIf (register st (s .offset)) (s .enables) 0 + byteIf (register st (s .offset)) (s .enables) 1 + byteIf (register st (s .offset)) (s .enables) 2 + byteIf (register st (s .offset)) (s .enables) 3
-  shown-is = shown-bytes (register st (s .offset)) (s .enables)
+  shown-is : (side : Side) → (let r = register side st (s .offset) in shown r (s .enables) ≡ byteIf r (s .enables) 0 + byteIf r (s .enables) 1 + byteIf r (s .enables) 2 + byteIf r (s .enables) 3)
+  shown-is side = shown-bytes (register side st (s .offset)) (s .enables)
 
   reply-is : (k : ℕ) → doneReply (kindOf k) st start memory (accessOf s) ≡ by-number k
   unfolding by-number doneReply readValue cycleWord lowEnables
-  reply-is zero = λ i. showing (cond (eqb (s .offset) 0x20) (front (st .fromAddon .words)) (shown-is i)) (changes (accessOf s) (st .marks))
+  reply-is zero = λ i. showing (cond (eqb (s .offset) 0x20) (front (st .fromAddon .words)) (shown-is pci i)) (changes (accessOf s) (st .marks))
   reply-is (suc zero) = refl
-  reply-is (suc (suc zero)) = λ i. showing (cond (eqb (s .offset) 0x20) (front (st .fromPci .words)) (shown-is i)) (changes (accessOf s) (st .marks))
+  reply-is (suc (suc zero)) = λ i. showing (cond (eqb (s .offset) 0x20) (front (st .fromPci .words)) (shown-is addon i)) (changes (accessOf s) (st .marks))
   reply-is (suc (suc (suc zero))) = refl
   reply-is (suc (suc (suc (suc zero)))) = refl
   reply-is (suc (suc (suc (suc (suc zero))))) =
@@ -240,5 +245,6 @@ answer-rule st start memory s e =
       address = rw e (λ i. reply i .address);
       value = rw e (λ i. reply i .value);
       enables = rw e (λ i. reply i .enables);
-      line = line-rule st start memory s ∙ rw e;
+      line = line-rule st start memory s .line ∙ rw e;
+      addonLine = line-rule st start memory s .addonLine ∙ rw e;
     }

@@ -10,17 +10,17 @@ use lib.Bits.{bitAnd, bitXor, or-lt, xor-lt, and-le-l, and-le-r}
 use lib.ListN.{length, getD, set, drop}
 use borrow.Author.Tests.{eqb-true}
 use Rattle.machine.specs.Words.{ones, mask, raised, cleared, shown, merged, written}
-use Rattle.machine.specs.Sides.{Side, pci, addon, host, card}
+use Rattle.machine.specs.Sides.{Side, pci, addon, sameSide, sideOf}
 use Rattle.machine.specs.State.{Lane, State, resetState}
 use Rattle.machine.specs.Access.{Access, accessOf, Kind, reading, writing, cycle, chipReset, unknown, isReset, cycles, writes, isReadBy, isWriteBy}
-use Rattle.machine.specs.Offsets.{isMailbox, writer, reader, fifoPort, addressAt, countAt, intcsrAt, mcsrAt}
+use Rattle.machine.specs.Offsets.{isMailbox, writer, reader, fifoPort, addressAt, countAt, interruptsAt, controlAt}
 use Rattle.machine.specs.Commands.{clearsMarks, clearsFifo}
 use Rattle.machine.specs.Mailboxes.{marksAt, fills, takes, changes, marksAfter, mailAfter}
 use Rattle.machine.specs.Fifos.{front, cycleFeeds, letIn, handedOut, followed, fifoAfter}
 use Rattle.machine.specs.Window.{placeOf}
 use Rattle.machine.specs.Mcsr.{mcsrKept, mcsrAfter}
 use Rattle.machine.specs.Cycles.{addressKept, countKept, stored, addressAfter, countAfter, laneAfter}
-use Rattle.machine.specs.Intcsr.{intcsrKept, intcsrEvents, intcsrWritten, intcsrAfter, intcsrAborted}
+use Rattle.machine.specs.Interrupts.{interrupts, interruptsKept, flags, interruptsWritten, notified, interruptsAfter, interruptsAborted}
 use Rattle.machine.specs.Code.{codeOf}
 use Rattle.machine.specs.Step.{Outcome, register, notAFrame, answered, doneState, abortedState, stateAfter, memoryAfter, replyOf, respond, stepOf}
 use Rattle.promises.specs.Readings.{byteIf, readThen, addresses, values, lowestEnables}
@@ -127,22 +127,27 @@ lane-fits side x word l p q h =
       count = below-cond (writes pci (countAt side) x) (written-lt countKept (l .count) (x .value) (x .enables)) (below-cond (cycles side (x .kind)) (let c = h .count in omega arith) (h .count));
     }
 
-intcsr-fits : (k : Kind) (st : State) (x : Access) → st .intcsr < 2 ^ 32 → intcsrAfter k st x < 2 ^ 32
-unfolding intcsrAfter intcsrWritten
-intcsr-fits (reading host) st x h = h
-intcsr-fits (reading card) st x h = raised-lt (st .intcsr) _ 16 (omega arith) h
-intcsr-fits (writing host) st x h =
-    below-cond (eqb (x .offset) intcsrAt)
-    (or-lt 32 _ _ (written-lt intcsrKept (st .intcsr) (x .value) (x .enables)) (cleared-lt (bitAnd (st .intcsr) intcsrEvents) (shown (x .value) (x .enables)))) h
-intcsr-fits (writing card) st x h = raised-lt (st .intcsr) _ 17 (omega arith) h
-intcsr-fits (cycle pci) st x h = raised-lt (st .intcsr) _ 19 (omega arith) h
-intcsr-fits (cycle addon) st x h = raised-lt (st .intcsr) _ 18 (omega arith) h
-intcsr-fits chipReset st x h = h
-intcsr-fits unknown st x h = h
+notified-fits : (i changed : ℕ) → i < 2 ^ 32 → notified i changed < 2 ^ 32
+unfolding notified
+notified-fits i changed h = raised-lt _ _ 17 (omega arith) (raised-lt i _ 16 (omega arith) h)
+
+interrupts-fit : (side : Side) (k : Kind) (st : State) (x : Access) → interrupts side st < 2 ^ 32 → interruptsAfter side k st x < 2 ^ 32
+unfolding interruptsAfter interruptsWritten
+interrupts-fit side (reading by) st x h = below-cond (sameSide side (sideOf by)) h (notified-fits (interrupts side st) _ h)
+interrupts-fit side (writing by) st x h =
+    let i = interrupts side st in
+    below-cond (sameSide side (sideOf by))
+    (below-cond (eqb (x .offset) interruptsAt)
+    (or-lt 32 _ _ (written-lt interruptsKept i (x .value) (x .enables)) (cleared-lt (bitAnd i (flags side)) (shown (x .value) (x .enables)))) h)
+    (notified-fits i _ h)
+interrupts-fit side (cycle pci) st x h = raised-lt (interrupts side st) _ 19 (omega arith) h
+interrupts-fit side (cycle addon) st x h = raised-lt (interrupts side st) _ 18 (omega arith) h
+interrupts-fit side chipReset st x h = h
+interrupts-fit side unknown st x h = h
 
 mcsr-fits : (x : Access) (old : ℕ) → old < 2 ^ 32 → mcsrAfter x old < 2 ^ 32
 unfolding mcsrAfter
-mcsr-fits x old h = below-cond (writes pci mcsrAt x) (written-lt mcsrKept old (x .value) (x .enables)) h
+mcsr-fits x old h = below-cond (writes pci controlAt x) (written-lt mcsrKept old (x .value) (x .enables)) h
 
 done-fits : (st : State) (x : Access) (word : ℕ) → word < 2 ^ 32 → x .value < 2 ^ 32 → StateFits st → StateFits (doneState st x word)
 unfolding doneState
@@ -152,8 +157,9 @@ done-fits st x word p q h =
       marks = marks-fit x (st .marks) (h .marks);
       fromPci = lane-fits pci x word (st .fromPci) p q (h .fromPci);
       fromAddon = lane-fits addon x word (st .fromAddon) p q (h .fromAddon);
-      intcsr = intcsr-fits (x .kind) st x (h .intcsr);
+      intcsr = interrupts-fit pci (x .kind) st x (h .intcsr);
       mcsr = mcsr-fits x (st .mcsr) (h .mcsr);
+      aint = interrupts-fit addon (x .kind) st x (h .aint);
     }
 
 pub reset-fits : ResetFits
@@ -166,10 +172,11 @@ reset-fits =
       fromAddon = record { words = tt; address = z; count = z };
       intcsr = z;
       mcsr = z;
+      aint = z;
     }
 
 aborted-fits : (st : State) → StateFits st → StateFits (abortedState st)
-unfolding abortedState intcsrAborted
+unfolding abortedState interruptsAborted
 aborted-fits st h =
     record {
       mail = h .mail;
@@ -178,6 +185,7 @@ aborted-fits st h =
       fromAddon = h .fromAddon;
       intcsr = raised-lt (st .intcsr) true 20 (omega arith) (h .intcsr);
       mcsr = h .mcsr;
+      aint = raised-lt (st .aint) true 21 (omega arith) (h .aint);
     }
 
 either-fits : (b : Bool) (s t : State) → StateFits s → StateFits t → StateFits (cond b s t)
@@ -217,16 +225,16 @@ module _ (st : State) (start : ℕ) (memory : List ℕ) (s : Step) (h : StateFit
   front-lt : (ws : List ℕ) → WordsFit ws → front ws < 2 ^ 32
   front-lt ws k = at-lt (2 ^ 32) ws 0 z k
 
-  read-lt : (ws : List ℕ) → WordsFit ws → readThen st s ws < 2 ^ 32
-  read-lt ws k = below-cond (eqb (s .offset) 0x20) (front-lt ws k) (bytes-lt (register st (s .offset)) (s .enables))
+  read-lt : (side : Side) (ws : List ℕ) → WordsFit ws → readThen side st s ws < 2 ^ 32
+  read-lt side ws k = below-cond (eqb (s .offset) 0x20) (front-lt ws k) (bytes-lt (register side st (s .offset)) (s .enables))
 
   values-fit : WordsFit (values st start memory s)
   values-fit = (
-    read-lt (st .fromAddon .words) (h .fromAddon .words),
+    read-lt pci (st .fromAddon .words) (h .fromAddon .words),
     (
       z,
       (
-        read-lt (st .fromPci .words) (h .fromPci .words),
+        read-lt addon (st .fromPci .words) (h .fromPci .words),
         (
           z,
           (

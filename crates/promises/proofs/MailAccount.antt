@@ -8,7 +8,7 @@ use lib.Dec.{eqb, ltb, eqb·suc-zero}
 use lib.ListN.{length}
 use borrow.Author.Tests.{lt-ltb, le-ltb, eq-eqb, eqb-true, ltb-true, ltb-false}
 use Rattle.machine.specs.Words.{bit}
-use Rattle.machine.specs.Sides.{host, card}
+use Rattle.machine.specs.Sides.{pci, addon, host, card}
 use Rattle.machine.specs.State.{State, resetState}
 use Rattle.machine.specs.Access.{Access, accessOf, isReadBy, isWriteBy, isReset}
 use Rattle.machine.specs.Offsets.{isMailbox}
@@ -59,7 +59,7 @@ at-byte k h by o e = here (eqb o (k / 4 * 4)) refl
     here false q = elsewhere (isMailbox o) refl q ∙ sym (and-false (by (ltb k 16)))
 
 clears-bytes-is : (e : Event) → (isReset (accessOf (e .step) .kind) || clearsMarks (accessOf (e .step))) ≡ clearsBytes e
-clears-bytes-is e = λ i. reset-is e i || commands-is e 27 i
+clears-bytes-is e = λ i. reset-is e i || (commands-is e pci 27 i || commands-is e addon 27 i)
 
 module _ (k : ℕ) (h : k < 32) (e : Event) where
   abbrev x : Access

@@ -5,17 +5,17 @@ use mathlib.Core.Bool.{Bool, true, false, cond, not, _&&_, _||_, and-true, and-f
 use mathlib.Core.List.{List, [], _∷_, _++_, map, nil≢cons, head-eq-of-cons-eq, tail-eq-of-cons-eq}
 use native.Mathlib.Omega.{arith}
 use lib.Dec.{eqb, ltb}
-use lib.Bits.{bitOr, bitXor}
+use lib.Bits.{bitXor}
 use lib.ListN.{length}
 use borrow.Author.Tests.{eqb-true, ne-eqb, lt-ltb, ltb-true}
 use Rattle.machine.specs.Words.{bit, raised}
-use Rattle.machine.specs.Sides.{pci, addon}
+use Rattle.machine.specs.Sides.{Side, pci, addon, host, card}
 use Rattle.machine.specs.State.{State}
 use Rattle.machine.specs.Access.{Access, accessOf, kindOf}
 use Rattle.machine.specs.Commands.{clearsMarks}
 use Rattle.machine.specs.Mailboxes.{changes, marksAfter}
 use Rattle.machine.specs.Cycles.{runsOut}
-use Rattle.machine.specs.Intcsr.{outgoingEvent, incomingEvent, intcsrAfter, intcsrAborted}
+use Rattle.machine.specs.Interrupts.{interrupts, chosenOutgoing, chosenIncoming, outgoingEvent, incomingEvent, notified, interruptsAfter, abortBit, interruptsAborted}
 use Rattle.machine.specs.Code.{anyOf, codeOf}
 use Rattle.machine.specs.Step.{Outcome, stepOf, respond, answered, replyOf, stateAfter, doneState, abortedState}
 use Rattle.machine.specs.Event.{Event}
@@ -27,8 +27,9 @@ use Rattle.laws.proofs.Bits.{bit-raised, bit-low, bit-xor, bit-zero, by-bits, x
 use Rattle.laws.proofs.Marks.{fillsByte, takesByte, change-at}
 use Rattle.promises.specs.Account.{ByteEvent, write, read, clear, none, isDone, ownerWrites, otherReads, clearsBytes, touch, Every}
 use Rattle.promises.specs.Readings.{ChangedRule}
-use Rattle.promises.specs.Messages.{isReadKind, ChangedWay, flagOf, enableOf, chosenOf, tells, leavesIntcsr, DriverCounts, takesBack, OneMessage}
+use Rattle.promises.specs.Messages.{isReadKind, ChangedWay, flagOf, enableOf, chosenOf, tellingKind, tells, leavesInterrupts, DriverCounts, takesBack, OneMessage}
 use Rattle.promises.proofs.MailAccount.{touched, mark-event}
+use Rattle.promises.proofs.Events.{bit-notified, outgoing-read, incoming-read, outgoing-write, incoming-write}
 use Rattle.promises.proofs.Answers.{changed-is}
 
 -- ---- the changed marks of an answer
@@ -118,10 +119,10 @@ changed-way k h st start memory s e =
 
 -- ---- one message, one event
 
--- a byte that was told of stays as it is until something takes it back
-not-taken : (d c w r low b : Bool) → (d && (c || cond low w r)) ≡ false → b ≡ not low → touched (cond d (cond c clear (cond w write (cond r read none))) none) b ≡ not low
-not-taken false c w r low b e f = f
-not-taken true true w r low b e f = absurd (true≢false e)
+-- a byte that was told of stays as it is until something takes it back; `full` says whether reads are told
+not-taken : (d c w r full b : Bool) → (d && (c || cond full w r)) ≡ false → b ≡ not full → touched (cond d (cond c clear (cond w write (cond r read none))) none) b ≡ not full
+not-taken false c w r full b e f = f
+not-taken true true w r full b e f = absurd (true≢false e)
 not-taken true false true r true b e f = absurd (true≢false e)
 not-taken true false false true true b e f = refl
 not-taken true false false false true b e f = f
@@ -129,90 +130,143 @@ not-taken true false w true false b e f = absurd (true≢false e)
 not-taken true false true false false b e f = refl
 not-taken true false false false false b e f = f
 
-module _ (k : ℕ) (h : k < 32) where
-  abbrev low : Bool
-  low = ltb k 16
+module _ (side : Side) (k : ℕ) (h : k < 32) where
+  abbrev kind : ℕ
+  kind = tellingKind side (ltb k 16)
+
+  abbrev full : Bool
+  full = isReadKind kind
+
+  abbrev telling : Event → Bool
+  telling e = tells side (ltb k 16) k e
 
   -- before and after an answer that tells of it
   told : (st : State) (start : ℕ) (memory : List ℕ) (s : Step)
-      → (let o = stepOf st start memory s in tells low k (record { step = s; answer = o .answer }) ≡ true → (bit (st .marks) k ≡ low) × (bit (o .state .marks) k ≡ not low))
-  told st start memory s e = by low refl e
-    where
-      by : (b : Bool) → low ≡ b
-          → (let o = stepOf st start memory s in tells b k (record { step = s; answer = o .answer }) ≡ true → (bit (st .marks) k ≡ b) × (bit (o .state .marks) k ≡ not b))
-      by true q e =
-          let kind = ap isReadKind (eqb-true (s .kind) 2 (and-left (eqb (s .kind) 2) _ e)) in
-          let w = changed-way k h st start memory s (and-right (eqb (s .kind) 2) _ e) in
-          (w .0 ∙ kind, w .1 ∙ ap not kind)
-      by false q e =
-          let kind = ap isReadKind (eqb-true (s .kind) 3 (and-left (eqb (s .kind) 3) _ e)) in
-          let w = changed-way k h st start memory s (and-right (eqb (s .kind) 3) _ e) in
-          (w .0 ∙ kind, w .1 ∙ ap not kind)
+      → (let o = stepOf st start memory s in telling (record { step = s; answer = o .answer }) ≡ true → (bit (st .marks) k ≡ full) × (bit (o .state .marks) k ≡ not full))
+  told st start memory s e =
+      let same = ap isReadKind (eqb-true (s .kind) kind (and-left (eqb (s .kind) kind) _ e)) in
+      let w = changed-way k h st start memory s (and-right (eqb (s .kind) kind) _ e) in
+      (w .0 ∙ same, w .1 ∙ ap not same)
 
-  stays : (e : Event) (b : Bool) → takesBack k e ≡ false → b ≡ not low → touched (touch k e) b ≡ not low
-  stays e b q m = not-taken (isDone e) (clearsBytes e) (ownerWrites k e) (otherReads k e) low b q m
+  stays : (e : Event) (b : Bool) → takesBack side k e ≡ false → b ≡ not full → touched (touch k e) b ≡ not full
+  stays e b q m = not-taken (isDone e) (clearsBytes e) (ownerWrites k e) (otherReads k e) full b q m
 
   both : (b : Bool) → b ≡ not b → ⊥
   both true e = true≢false e
   both false e = false≢true e
 
   second : (between : List Event) (st : State) (start : ℕ) (memory : List ℕ) (steps : List Step) (after : List Event) (f : Event)
-      → bit (st .marks) k ≡ not low → run st start memory steps .events ≡ between ++ f ∷ after → tells low k f ≡ true → anyOf (map (takesBack k) between) ≡ true
+      → bit (st .marks) k ≡ not full → run st start memory steps .events ≡ between ++ f ∷ after → telling f ≡ true → anyOf (map (takesBack side k) between) ≡ true
   second [] st start memory [] after f m e t = absurd (nil≢cons e)
   second [] st start memory (s ∷ ss) after f m e t =
-      let same = head-eq-of-cons-eq e in absurd (both low (sym (told st start memory s (ap (tells low k) same ∙ t) .0) ∙ m))
+      let same = head-eq-of-cons-eq e in absurd (both full (sym (told st start memory s (ap telling same ∙ t) .0) ∙ m))
   second (g ∷ bs) st start memory [] after f m e t = absurd (nil≢cons e)
   second (g ∷ bs) st start memory (s ∷ ss) after f m e t =
       let o = stepOf st start memory s in
       let same : record { step = s; answer = o .answer } ≡ g = head-eq-of-cons-eq e in
-      either (takesBack k g) (anyOf (map (takesBack k) bs))
-      (λ q. second bs (o .state) start (o .memory) ss after f (mark-event k h st start memory s ∙ stays (record { step = s; answer = o .answer }) (bit (st .marks) k) (ap (takesBack k) same ∙ q) m) (tail-eq-of-cons-eq e) t)
+      either (takesBack side k g) (anyOf (map (takesBack side k) bs))
+      (λ q. second bs (o .state) start (o .memory) ss after f (mark-event k h st start memory s ∙ stays (record { step = s; answer = o .answer }) (bit (st .marks) k) (ap (takesBack side k) same ∙ q) m) (tail-eq-of-cons-eq e) t)
     where
       either : (a b : Bool) → (a ≡ false → b ≡ true) → (a || b) ≡ true
       either true b f = refl
       either false b f = f refl
 
   one-from : (before : List Event) (st : State) (start : ℕ) (memory : List ℕ) (steps : List Step) (between after : List Event) (e f : Event)
-      → run st start memory steps .events ≡ before ++ e ∷ between ++ f ∷ after → tells low k e ≡ true → tells low k f ≡ true
-      → anyOf (map (takesBack k) between) ≡ true
+      → run st start memory steps .events ≡ before ++ e ∷ between ++ f ∷ after → telling e ≡ true → telling f ≡ true → anyOf (map (takesBack side k) between) ≡ true
   one-from [] st start memory [] between after e f q a b = absurd (nil≢cons q)
   one-from [] st start memory (s ∷ ss) between after e f q a b =
       let same = head-eq-of-cons-eq q in
-      second between (stepOf st start memory s .state) start (stepOf st start memory s .memory) ss after f (told st start memory s (ap (tells low k) same ∙ a) .1) (tail-eq-of-cons-eq q) b
+      second between (stepOf st start memory s .state) start (stepOf st start memory s .memory) ss after f (told st start memory s (ap telling same ∙ a) .1) (tail-eq-of-cons-eq q) b
   one-from (g ∷ gs) st start memory [] between after e f q a b = absurd (nil≢cons q)
   one-from (g ∷ gs) st start memory (s ∷ ss) between after e f q a b =
       one-from gs (stepOf st start memory s .state) start (stepOf st start memory s .memory) ss between after e f (tail-eq-of-cons-eq q) a b
 
 pub one-message : OneMessage
-one-message k h st start memory steps before between after e f q a b = one-from k h before st start memory steps between after e f q a b
+one-message side k h st start memory steps before between after e f q a b = one-from side k h before st start memory steps between after e f q a b
 
 -- ---- what a driver counts
+
+-- both flags after an access of the other side, by the events: one of which may be none
+notified-flag : (outgoing : Bool) (i c : ℕ) → bit (notified i c) (flagOf outgoing) ≡ (bit i (flagOf outgoing) || cond outgoing (outgoingEvent i c) (incomingEvent i c))
+notified-flag true i c = bit-notified i c 16 ∙ simp (and-true, and-false, or-false)
+notified-flag false i c = bit-notified i c 17 ∙ simp (and-true, and-false, or-false)
 
 quiet : (b on : Bool) → b ≡ (b || on && false)
 quiet b on = sym (simp (and-false, or-false))
 
--- INTCSR after a done step that neither resets nor writes it: a flag of a half goes up by its own event alone
-done-flag : (outgoing : Bool) (n : ℕ) (st : State) (o e v : ℕ) → (eqb n 1 && eqb o 0x38) ≡ false
-    → (let x : Access = record { kind = kindOf n; offset = o; enables = e; value = v } in let i = st .intcsr in
-    bit (intcsrAfter (kindOf n) st x) (flagOf outgoing)
-    ≡ (bit i (flagOf outgoing) || bit i (enableOf outgoing) && (eqb n (cond outgoing 2 3) && bit (cond (ltb n 4) (changes x (st .marks)) 0) (chosenOf outgoing i))))
-unfolding intcsrAfter outgoingEvent incomingEvent
-done-flag true zero st o e v h = quiet (bit (st .intcsr) 16) (bit (st .intcsr) 4)
-done-flag false zero st o e v h = quiet (bit (st .intcsr) 17) (bit (st .intcsr) 12)
-done-flag true (suc zero) st o e v h = rw h (quiet (bit (st .intcsr) 16) (bit (st .intcsr) 4))
-done-flag false (suc zero) st o e v h = rw h (quiet (bit (st .intcsr) 17) (bit (st .intcsr) 12))
-done-flag true (suc (suc zero)) st o e v h = bit-raised (st .intcsr) _ 16 16 ∙ simp and-true
-done-flag false (suc (suc zero)) st o e v h = bit-raised (st .intcsr) _ 16 17 ∙ simp and-false
-done-flag true (suc (suc (suc zero))) st o e v h = bit-raised (st .intcsr) _ 17 16 ∙ simp and-false
-done-flag false (suc (suc (suc zero))) st o e v h = bit-raised (st .intcsr) _ 17 17 ∙ simp and-true
-done-flag true (suc (suc (suc (suc zero)))) st o e v h = bit-raised (st .intcsr) _ 18 16 ∙ simp and-false
-done-flag false (suc (suc (suc (suc zero)))) st o e v h = bit-raised (st .intcsr) _ 18 17 ∙ simp and-false
-done-flag true (suc (suc (suc (suc (suc zero))))) st o e v h = bit-raised (st .intcsr) _ 19 16 ∙ simp and-false
-done-flag false (suc (suc (suc (suc (suc zero))))) st o e v h = bit-raised (st .intcsr) _ 19 17 ∙ simp and-false
-done-flag true (suc (suc (suc (suc (suc (suc zero)))))) st o e v h = quiet (bit (st .intcsr) 16) (bit (st .intcsr) 4)
-done-flag false (suc (suc (suc (suc (suc (suc zero)))))) st o e v h = quiet (bit (st .intcsr) 17) (bit (st .intcsr) 12)
-done-flag true (suc (suc (suc (suc (suc (suc (suc n))))))) st o e v h = rw (ne-eqb (suc (suc (suc (suc (suc (suc (suc n))))))) 2 (λ q. omega arith)) (quiet (bit (st .intcsr) 16) (bit (st .intcsr) 4))
-done-flag false (suc (suc (suc (suc (suc (suc (suc n))))))) st o e v h = rw (ne-eqb (suc (suc (suc (suc (suc (suc (suc n))))))) 3 (λ q. omega arith)) (quiet (bit (st .intcsr) 17) (bit (st .intcsr) 12))
+abbrev madeBy : ℕ → ℕ → ℕ → ℕ → Access
+madeBy n o e v = record { kind = kindOf n; offset = o; enables = e; value = v }
+
+-- the register of a side after a done step that neither resets nor writes it: a flag of a half goes up by its own event alone
+abbrev FlagThen : Side → Bool → ℕ → State → Access → Type 0
+FlagThen side outgoing n st x =
+    bit (interruptsAfter side (kindOf n) st x) (flagOf outgoing)
+    ≡ (bit (interrupts side st) (flagOf outgoing)
+    || bit (interrupts side st) (enableOf outgoing) && (eqb n (tellingKind side outgoing) && bit (cond (ltb n 4) (changes x (st .marks)) 0) (chosenOf outgoing (interrupts side st))))
+
+-- an access of the other side
+module _ (st : State) (o e v : ℕ) where
+  card-read : (outgoing : Bool) → FlagThen pci outgoing 2 st (madeBy 2 o e v)
+  unfolding interruptsAfter outgoingEvent
+  card-read true = notified-flag true (st .intcsr) _
+  card-read false = notified-flag false (st .intcsr) _ ∙ (λ j. bit (st .intcsr) 17 || incoming-read card (st .intcsr) o e v (st .marks) j)
+
+  card-write : (outgoing : Bool) → FlagThen pci outgoing 3 st (madeBy 3 o e v)
+  unfolding interruptsAfter incomingEvent
+  card-write true = notified-flag true (st .intcsr) _ ∙ (λ j. bit (st .intcsr) 16 || outgoing-write card (st .intcsr) o e v (st .marks) j)
+  card-write false = notified-flag false (st .intcsr) _
+
+  host-write : (outgoing : Bool) → FlagThen addon outgoing 1 st (madeBy 1 o e v)
+  unfolding interruptsAfter outgoingEvent
+  host-write true = notified-flag true (st .aint) _
+  host-write false = notified-flag false (st .aint) _ ∙ (λ j. bit (st .aint) 17 || incoming-write host (st .aint) o e v (st .marks) j)
+
+  host-read : (outgoing : Bool) → FlagThen addon outgoing 0 st (madeBy 0 o e v)
+  unfolding interruptsAfter incomingEvent
+  host-read true = notified-flag true (st .aint) _ ∙ (λ j. bit (st .aint) 16 || outgoing-read host (st .aint) o e v (st .marks) j)
+  host-read false = notified-flag false (st .aint) _
+
+-- a step of another kind than those that tell a half
+other-kind : (side : Side) (outgoing : Bool) (n : ℕ) (b : Bool) (i word : ℕ) → (n ≡ tellingKind side outgoing → ⊥)
+    → b ≡ (b || bit i (enableOf outgoing) && (eqb n (tellingKind side outgoing) && bit word (chosenOf outgoing i)))
+other-kind side outgoing n b i word h = rw (ne-eqb n (tellingKind side outgoing) h) (quiet b (bit i (enableOf outgoing)))
+
+elsewhere-raised : (outgoing : Bool) (i : ℕ) (on : Bool) (k : ℕ) → 18 ≤ k → bit (raised i on k) (flagOf outgoing) ≡ bit i (flagOf outgoing)
+elsewhere-raised true i on k h = bit-raised i on k 16 ∙ simp (ne-eqb 16 k (λ q. omega arith), and-false, or-false)
+elsewhere-raised false i on k h = bit-raised i on k 17 ∙ simp (ne-eqb 17 k (λ q. omega arith), and-false, or-false)
+
+not-telling : (side : Side) (outgoing : Bool) (n : ℕ) → 4 ≤ n → n ≡ tellingKind side outgoing → ⊥
+not-telling pci true n h e = omega arith
+not-telling pci false n h e = omega arith
+not-telling addon true n h e = omega arith
+not-telling addon false n h e = omega arith
+
+-- the kind of the writes of a side's register
+abbrev ownKind : Side → ℕ
+ownKind pci = 1
+ownKind addon = 3
+
+done-flag : (side : Side) (outgoing : Bool) (n : ℕ) (st : State) (o e v : ℕ) → (eqb n (ownKind side) && eqb o 0x38) ≡ false → FlagThen side outgoing n st (madeBy n o e v)
+unfolding interruptsAfter
+done-flag pci true zero st o e v h = quiet (bit (st .intcsr) 16) (bit (st .intcsr) 4)
+done-flag pci false zero st o e v h = quiet (bit (st .intcsr) 17) (bit (st .intcsr) 12)
+done-flag addon outgoing zero st o e v h = host-read st o e v outgoing
+done-flag pci true (suc zero) st o e v h = rw h (quiet (bit (st .intcsr) 16) (bit (st .intcsr) 4))
+done-flag pci false (suc zero) st o e v h = rw h (quiet (bit (st .intcsr) 17) (bit (st .intcsr) 12))
+done-flag addon outgoing (suc zero) st o e v h = host-write st o e v outgoing
+done-flag pci outgoing (suc (suc zero)) st o e v h = card-read st o e v outgoing
+done-flag addon true (suc (suc zero)) st o e v h = quiet (bit (st .aint) 16) (bit (st .aint) 4)
+done-flag addon false (suc (suc zero)) st o e v h = quiet (bit (st .aint) 17) (bit (st .aint) 12)
+done-flag pci outgoing (suc (suc (suc zero))) st o e v h = card-write st o e v outgoing
+done-flag addon true (suc (suc (suc zero))) st o e v h = rw h (quiet (bit (st .aint) 16) (bit (st .aint) 4))
+done-flag addon false (suc (suc (suc zero))) st o e v h = rw h (quiet (bit (st .aint) 17) (bit (st .aint) 12))
+done-flag side outgoing (suc (suc (suc (suc zero)))) st o e v h =
+    elsewhere-raised outgoing (interrupts side st) _ 18 (omega arith) ∙ other-kind side outgoing 4 _ (interrupts side st) _ (not-telling side outgoing 4 (omega arith))
+done-flag side outgoing (suc (suc (suc (suc (suc zero))))) st o e v h =
+    elsewhere-raised outgoing (interrupts side st) _ 19 (omega arith) ∙ other-kind side outgoing 5 _ (interrupts side st) _ (not-telling side outgoing 5 (omega arith))
+done-flag side outgoing (suc (suc (suc (suc (suc (suc zero)))))) st o e v h = other-kind side outgoing 6 _ (interrupts side st) _ (not-telling side outgoing 6 (omega arith))
+done-flag side outgoing (suc (suc (suc (suc (suc (suc (suc n))))))) st o e v h =
+    other-kind side outgoing _ _ (interrupts side st) _ (not-telling side outgoing _ (omega arith))
 
 -- what a half chooses and enables is in the lowest sixteen bits, which it leaves
 raised-low : (i : ℕ) (on : Bool) (k : ℕ) → 16 ≤ k → raised i on k % 2 ^ 16 ≡ i % 2 ^ 16
@@ -222,20 +276,28 @@ raised-low i on k h = by-bits _ _ (λ j. bit-low 16 (raised i on k) j ∙ at j (
     at j true e = let l = ltb-true j 16 e in bit-raised i on k j ∙ simp (ne-eqb j k (λ q. omega arith), and-false, or-false)
     at j false e = refl
 
-done-low : (n : ℕ) (st : State) (o e v : ℕ) → (eqb n 1 && eqb o 0x38) ≡ false
-    → intcsrAfter (kindOf n) st (record { kind = kindOf n; offset = o; enables = e; value = v }) % 2 ^ 16 ≡ st .intcsr % 2 ^ 16
-unfolding intcsrAfter
-done-low zero st o e v h = refl
-done-low (suc zero) st o e v h = rw h
-done-low (suc (suc zero)) st o e v h = raised-low (st .intcsr) _ 16 (omega arith)
-done-low (suc (suc (suc zero))) st o e v h = raised-low (st .intcsr) _ 17 (omega arith)
-done-low (suc (suc (suc (suc zero)))) st o e v h = raised-low (st .intcsr) _ 18 (omega arith)
-done-low (suc (suc (suc (suc (suc zero))))) st o e v h = raised-low (st .intcsr) _ 19 (omega arith)
-done-low (suc (suc (suc (suc (suc (suc zero)))))) st o e v h = refl
-done-low (suc (suc (suc (suc (suc (suc (suc n))))))) st o e v h = refl
+notified-low : (i c : ℕ) → notified i c % 2 ^ 16 ≡ i % 2 ^ 16
+unfolding notified
+notified-low i c = raised-low _ _ 17 (omega arith) ∙ raised-low i _ 16 (omega arith)
 
--- a step that neither resets nor writes INTCSR
-module _ (st : State) (start : ℕ) (memory : List ℕ) (s : Step) where
+done-low : (side : Side) (n : ℕ) (st : State) (o e v : ℕ) → (eqb n (ownKind side) && eqb o 0x38) ≡ false
+    → interruptsAfter side (kindOf n) st (madeBy n o e v) % 2 ^ 16 ≡ interrupts side st % 2 ^ 16
+unfolding interruptsAfter
+done-low pci zero st o e v h = refl
+done-low addon zero st o e v h = notified-low (st .aint) _
+done-low pci (suc zero) st o e v h = rw h
+done-low addon (suc zero) st o e v h = notified-low (st .aint) _
+done-low pci (suc (suc zero)) st o e v h = notified-low (st .intcsr) _
+done-low addon (suc (suc zero)) st o e v h = refl
+done-low pci (suc (suc (suc zero))) st o e v h = notified-low (st .intcsr) _
+done-low addon (suc (suc (suc zero))) st o e v h = rw h
+done-low side (suc (suc (suc (suc zero)))) st o e v h = raised-low (interrupts side st) _ 18 (omega arith)
+done-low side (suc (suc (suc (suc (suc zero))))) st o e v h = raised-low (interrupts side st) _ 19 (omega arith)
+done-low side (suc (suc (suc (suc (suc (suc zero)))))) st o e v h = refl
+done-low side (suc (suc (suc (suc (suc (suc (suc n))))))) st o e v h = refl
+
+-- a step that neither resets nor writes the register
+module _ (side : Side) (st : State) (start : ℕ) (memory : List ℕ) (s : Step) where
   abbrev then : Outcome
   then = stepOf st start memory s
 
@@ -243,7 +305,7 @@ module _ (st : State) (start : ℕ) (memory : List ℕ) (s : Step) where
   number = codeOf st start (length memory) (accessOf s)
 
   abbrev i : ℕ
-  i = st .intcsr
+  i = interrupts side st
 
   free : (d r w : Bool) → not (d && (r || w)) ≡ true → d ≡ true → (r ≡ false) × (w ≡ false)
   free true true w e f = absurd (false≢true e)
@@ -251,46 +313,63 @@ module _ (st : State) (start : ℕ) (memory : List ℕ) (s : Step) where
   free true false false e f = (refl, refl)
   free false r w e f = absurd (false≢true f)
 
-  done-intcsr : eqb number 0 ≡ true → eqb (s .kind) 6 ≡ false → then .state .intcsr ≡ intcsrAfter (kindOf (s .kind)) st (accessOf s)
-  unfolding stepOf respond stateAfter doneState
-  done-intcsr e r = rw (eqb-true number 0 e, named (s .kind) .reset, r)
-
-  refused-intcsr : eqb number 0 ≡ false → then .state .intcsr ≡ raised i (eqb number 13) 20
-  unfolding stepOf respond stateAfter abortedState intcsrAborted raised
-  refused-intcsr e = rw e (by (eqb number 13))
-    where
-      by : (b : Bool) → cond b (record { mail = st .mail; marks = st .marks; fromPci = st .fromPci; fromAddon = st .fromAddon; intcsr = bitOr (st .intcsr) (2 ^ 20); mcsr = st .mcsr }) st .intcsr ≡ cond b (bitOr (st .intcsr) (2 ^ 20)) (st .intcsr)
-      by true = refl
-      by false = refl
-
   abbrev event : Event
   event = record { step = s; answer = then .answer }
 
-  module _ (l : leavesIntcsr event ≡ true) where
-    low-step : then .state .intcsr % 2 ^ 16 ≡ i % 2 ^ 16
-    unfolding stepOf respond answered
+  leaves : leavesInterrupts side event ≡ true → eqb number 0 ≡ true → (eqb (s .kind) 6 ≡ false) × ((eqb (s .kind) (ownKind side) && eqb (s .offset) 0x38) ≡ false)
+  unfolding stepOf respond answered
+  leaves l e = by side l
+    where
+      by : (of : Side) → leavesInterrupts of event ≡ true → (eqb (s .kind) 6 ≡ false) × ((eqb (s .kind) (ownKind of) && eqb (s .offset) 0x38) ≡ false)
+      by pci l = free (eqb number 0) (eqb (s .kind) 6) _ l e
+      by addon l = free (eqb number 0) (eqb (s .kind) 6) _ l e
+
+  done-interrupts : eqb number 0 ≡ true → eqb (s .kind) 6 ≡ false → interrupts side (then .state) ≡ interruptsAfter side (kindOf (s .kind)) st (accessOf s)
+  unfolding stepOf respond stateAfter doneState
+  done-interrupts e r = by side
+    where
+      by : (of : Side) → interrupts of (then .state) ≡ interruptsAfter of (kindOf (s .kind)) st (accessOf s)
+      by pci = rw (eqb-true number 0 e, named (s .kind) .reset, r)
+      by addon = rw (eqb-true number 0 e, named (s .kind) .reset, r)
+
+  refused-interrupts : eqb number 0 ≡ false → interrupts side (then .state) ≡ raised i (eqb number 13) (abortBit side)
+  unfolding stepOf respond stateAfter abortedState interruptsAborted raised
+  refused-interrupts e = rw e (by side (eqb number 13))
+    where
+      by : (of : Side) (b : Bool) → interrupts of (cond b (abortedState st) st) ≡ raised (interrupts of st) b (abortBit of)
+      by pci true = refl
+      by pci false = refl
+      by addon true = refl
+      by addon false = refl
+
+  high-abort : (of : Side) → 18 ≤ abortBit of
+  high-abort pci = omega arith
+  high-abort addon = omega arith
+
+  module _ (l : leavesInterrupts side event ≡ true) where
+    low-step : interrupts side (then .state) % 2 ^ 16 ≡ i % 2 ^ 16
     low-step = by (eqb number 0) refl
       where
-        by : (b : Bool) → eqb number 0 ≡ b → then .state .intcsr % 2 ^ 16 ≡ i % 2 ^ 16
-        by true e = let f = free (eqb number 0) (eqb (s .kind) 6) _ l e in rw (done-intcsr e (f .0)) (done-low (s .kind) st (s .offset) (s .enables) (s .value) (f .1))
-        by false e = rw (refused-intcsr e) (raised-low i (eqb number 13) 20 (omega arith))
+        by : (b : Bool) → eqb number 0 ≡ b → interrupts side (then .state) % 2 ^ 16 ≡ i % 2 ^ 16
+        by true e = let f = leaves l e in rw (done-interrupts e (f .0)) (done-low side (s .kind) st (s .offset) (s .enables) (s .value) (f .1))
+        by false e = let p = high-abort side in rw (refused-interrupts e) (raised-low i (eqb number 13) (abortBit side) (omega arith))
 
-    flag-step : (outgoing : Bool) → bit (then .state .intcsr) (flagOf outgoing) ≡ (bit i (flagOf outgoing) || bit i (enableOf outgoing) && tells outgoing (chosenOf outgoing i) event)
-    unfolding stepOf respond answered
-    flag-step outgoing = by (eqb number 0) refl outgoing ∙ sym (ap (λ w. bit i (flagOf outgoing) || bit i (enableOf outgoing) && (eqb (s .kind) (cond outgoing 2 3) && bit w (chosenOf outgoing i))) (changed-is st start memory s))
+    flag-step : (outgoing : Bool) → bit (interrupts side (then .state)) (flagOf outgoing) ≡ (bit i (flagOf outgoing) || bit i (enableOf outgoing) && tells side outgoing (chosenOf outgoing i) event)
+    flag-step outgoing =
+        by (eqb number 0) refl
+        ∙ sym (ap (λ w. bit i (flagOf outgoing) || bit i (enableOf outgoing) && (eqb (s .kind) (tellingKind side outgoing) && bit w (chosenOf outgoing i))) (changed-is st start memory s))
       where
-        by : (b : Bool) → eqb number 0 ≡ b → (outgoing : Bool)
-            → bit (then .state .intcsr) (flagOf outgoing)
-            ≡ (bit i (flagOf outgoing) || bit i (enableOf outgoing) && (eqb (s .kind) (cond outgoing 2 3) && bit (cond (b && ltb (s .kind) 4) (changes (accessOf s) (st .marks)) 0) (chosenOf outgoing i)))
-        by true e outgoing = let f = free (eqb number 0) (eqb (s .kind) 6) _ l e in rw (done-intcsr e (f .0)) (done-flag outgoing (s .kind) st (s .offset) (s .enables) (s .value) (f .1))
-        by false e true = rw (refused-intcsr e) (bit-raised i (eqb number 13) 20 16 ∙ simp (bit-zero, and-false))
-        by false e false = rw (refused-intcsr e) (bit-raised i (eqb number 13) 20 17 ∙ simp (bit-zero, and-false))
+        by : (b : Bool) → eqb number 0 ≡ b
+            → bit (interrupts side (then .state)) (flagOf outgoing)
+            ≡ (bit i (flagOf outgoing) || bit i (enableOf outgoing) && (eqb (s .kind) (tellingKind side outgoing) && bit (cond (b && ltb (s .kind) 4) (changes (accessOf s) (st .marks)) 0) (chosenOf outgoing i)))
+        by true e = let f = leaves l e in rw (done-interrupts e (f .0)) (done-flag side outgoing (s .kind) st (s .offset) (s .enables) (s .value) (f .1))
+        by false e = rw (refused-interrupts e) (elsewhere-raised outgoing i (eqb number 13) (abortBit side) (high-abort side) ∙ simp (bit-zero, and-false, or-false))
 
-low-kept : (start : ℕ) (steps : List Step) (st : State) (memory : List ℕ)
-    → (let r = run st start memory steps in Every (λ (g : Event). leavesIntcsr g ≡ true) (r .events) → r .state .intcsr % 2 ^ 16 ≡ st .intcsr % 2 ^ 16)
-low-kept start [] st memory h = refl
-low-kept start (s ∷ ss) st memory h =
-    low-kept start ss (stepOf st start memory s .state) (stepOf st start memory s .memory) (h .1) ∙ low-step st start memory s (h .0)
+low-kept : (side : Side) (start : ℕ) (steps : List Step) (st : State) (memory : List ℕ)
+    → (let r = run st start memory steps in Every (λ (g : Event). leavesInterrupts side g ≡ true) (r .events) → interrupts side (r .state) % 2 ^ 16 ≡ interrupts side st % 2 ^ 16)
+low-kept side start [] st memory h = refl
+low-kept side start (s ∷ ss) st memory h =
+    low-kept side start ss (stepOf st start memory s .state) (stepOf st start memory s .memory) (h .1) ∙ low-step side st start memory s (h .0)
 
 same-choice : (outgoing : Bool) (i j : ℕ) → i % 2 ^ 16 ≡ j % 2 ^ 16 → chosenOf outgoing i ≡ chosenOf outgoing j
 same-choice true i j e = omega arith
@@ -301,8 +380,8 @@ same-enable true i j e = sym (bit-low 16 i 4) ∙ ap (λ w. bit w 4) e ∙ bit-l
 same-enable false i j e = sym (bit-low 16 i 12) ∙ ap (λ w. bit w 12) e ∙ bit-low 16 j 12
 
 pub driver-counts : DriverCounts
-driver-counts outgoing st start memory steps s h l =
+driver-counts side outgoing st start memory steps s h l =
     let r = run st start memory steps in
-    let e = low-kept start steps st memory h in
-    flag-step (r .state) start (r .memory) s l outgoing
-    ∙ rw (same-enable outgoing (r .state .intcsr) (st .intcsr) e, same-choice outgoing (r .state .intcsr) (st .intcsr) e)
+    let e = low-kept side start steps st memory h in
+    flag-step side (r .state) start (r .memory) s l outgoing
+    ∙ rw (same-enable outgoing (interrupts side (r .state)) (interrupts side st) e, same-choice outgoing (interrupts side (r .state)) (interrupts side st) e)

@@ -20,12 +20,18 @@ module _ (e : Event) where
   pub reset-is : isReset (accessOf (e .step) .kind) ≡ isKind 6 e
   reset-is = by .reset
 
-  pub commands-is : (b : ℕ) → commands pci b (accessOf (e .step)) ≡ command 1 b e
-  commands-is b = λ i. by .pciWrite i && eqb (e .step .offset) 0x3C && bit (e .step .enables) 3 && bit (e .step .value) b
+  -- the kind of the writes on a side's bus
+  abbrev pub writeKind : Side → ℕ
+  writeKind pci = 1
+  writeKind addon = 3
+
+  pub commands-is : (side : Side) (b : ℕ) → commands side b (accessOf (e .step)) ≡ command (writeKind side) b e
+  commands-is pci b = λ i. by .pciWrite i && eqb (e .step .offset) 0x3C && bit (e .step .enables) 3 && bit (e .step .value) b
+  commands-is addon b = λ i. by .addonWrite i && eqb (e .step .offset) 0x3C && bit (e .step .enables) 3 && bit (e .step .value) b
 
   pub clears-is : (side : Side) → (isReset (accessOf (e .step) .kind) || clearsFifo side (accessOf (e .step))) ≡ clears side e
-  clears-is pci = λ i. by .reset i || commands-is 25 i
-  clears-is addon = λ i. by .reset i || commands-is 26 i
+  clears-is pci = λ i. by .reset i || (commands-is pci 25 i || commands-is addon 26 i)
+  clears-is addon = λ i. by .reset i || (commands-is pci 26 i || commands-is addon 25 i)
 
   pub in-is : (side : Side) → letIn side (accessOf (e .step)) (e .answer .value) ≡ wordsIn side e
   in-is pci =

@@ -9,7 +9,7 @@ use lib.ListN.{length}
 use borrow.Author.Tests.{eqb-true, eq-eqb, ne-eqb, leb-true}
 use Rattle.machine.specs.State.{State}
 use Rattle.machine.specs.Access.{Access, accessOf}
-use Rattle.machine.specs.Intcsr.{lineOf, intcsrAborted}
+use Rattle.machine.specs.Interrupts.{lineOf, interruptsAborted}
 use Rattle.machine.specs.Code.{codeOf, tests, firstOf, testOf}
 use Rattle.machine.specs.Step.{notAFrame, stepOf, respond, stateAfter, memoryAfter, answered, replyOf, abortedState}
 use Rattle.promises.specs.Theorems.{Numbered, Refused, NotAFrameAnswer, Aborted, AbortOnly, Lowest, LowestCode, EveryCode}
@@ -110,17 +110,30 @@ not-a-frame-answer st = refl
 -- ---- code 13
 
 abort-only : (st : State) → AbortOnly st (abortedState st)
-unfolding abortedState intcsrAborted
-abort-only st = record { mail = refl; marks = refl; fromPci = refl; fromAddon = refl; intcsr = λ k. bit-raised (st .intcsr) true 20 k; mcsr = refl }
+unfolding abortedState interruptsAborted
+abort-only st =
+    record {
+      mail = refl;
+      marks = refl;
+      fromPci = refl;
+      fromAddon = refl;
+      intcsr = λ k. bit-raised (st .intcsr) true 20 k;
+      mcsr = refl;
+      aint = λ k. bit-raised (st .aint) true 21 k;
+    }
 
 aborted-line : (st : State) → lineOf (abortedState st .intcsr) ≡ true
-unfolding abortedState lineOf intcsrAborted
+unfolding abortedState lineOf interruptsAborted
 aborted-line st = simp (bit-raised (st .intcsr) true 20 20, or-true, true-or)
+
+aborted-addon-line : (st : State) → lineOf (abortedState st .aint) ≡ true
+unfolding abortedState lineOf interruptsAborted
+aborted-addon-line st = simp (bit-raised (st .aint) true 21 21, or-true)
 
 pub aborted : Aborted
 unfolding stepOf respond stateAfter memoryAfter answered replyOf
 aborted st start memory s e =
     let after : stepOf st start memory s .state ≡ abortedState st = rw e in (
       rw after (abort-only st),
-      (rw e, rw e (λ i. record { code = 13; address = aborted-reply st (s .kind) i .address; value = aborted-reply st (s .kind) i .value; enables = aborted-reply st (s .kind) i .enables; line = aborted-line st i; changed = aborted-reply st (s .kind) i .changed })),
+      (rw e, rw e (λ i. record { code = 13; address = aborted-reply st (s .kind) i .address; value = aborted-reply st (s .kind) i .value; enables = aborted-reply st (s .kind) i .enables; line = aborted-line st i; «addon_line» = aborted-addon-line st i; changed = aborted-reply st (s .kind) i .changed })),
     )

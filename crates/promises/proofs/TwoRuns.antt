@@ -52,8 +52,8 @@ command-alike w b e f p =
     ∙ (λ i. ordered w b (a .kind i) (a .offset i) (a .enables i) (f .step .value))
 
 clears-alike : (side : Side) (e f : Event) → Twin e f → clears side e ≡ clears side f
-clears-alike pci e f p = λ i. eqb (p .steps .kind i) 6 || command-alike 1 25 e f p i
-clears-alike addon e f p = λ i. eqb (p .steps .kind i) 6 || command-alike 1 26 e f p i
+clears-alike pci e f p = λ i. eqb (p .steps .kind i) 6 || (command-alike 1 25 e f p i || command-alike 3 26 e f p i)
+clears-alike addon e f p = λ i. eqb (p .steps .kind i) 6 || (command-alike 1 26 e f p i || command-alike 3 25 e f p i)
 
 out-alike : (side : Side) (e f : Event) → Twin e f → wordsOut side e ≡ wordsOut side f
 out-alike pci e f p = λ i. cond (eqb (p .steps .kind i) 2 && eqb (p .steps .offset i) 0x20) (p .same i .value ∷ []) []

@@ -25,10 +25,11 @@ command kind k e = isAt kind 0x3C e && bit (e .step .enables) 3 && bit (e .step 
 
 -- ---- the FIFOs, each named by the side that feeds it
 
--- what empties it, if done: a reset, or a PCI write to MCSR with a one in bit 25 (PCI-to-Add-On) or 26 (Add-On-to-PCI)
+-- what empties it, if done: a reset, a PCI write to MCSR with a one in bit 25 (PCI-to-Add-On) or 26 (Add-On-to-PCI), or an Add-On write to AGCSTS
+-- with a one in 26 (PCI-to-Add-On) or 25 (Add-On-to-PCI)
 abbrev pub clears : Side → Event → Bool
-clears pci e = isKind 6 e || command 1 25 e
-clears addon e = isKind 6 e || command 1 26 e
+clears pci e = isKind 6 e || (command 1 25 e || command 3 26 e)
+clears addon e = isKind 6 e || (command 1 26 e || command 3 25 e)
 
 -- the words let in, if done: the data of a port write, and what a read cycle answers
 abbrev pub wordsIn : Side → Event → List ℕ
@@ -79,9 +80,9 @@ ownerWrites k e = isKind (cond (ltb k 16) 1 3) e && toByte k e
 abbrev pub otherReads : ℕ → Event → Bool
 otherReads k e = isKind (cond (ltb k 16) 2 0) e && toByte k e
 
--- a reset, or a mailbox clear by MCSR bit 27
+-- a reset, or a mailbox clear by bit 27 of MCSR or of AGCSTS
 abbrev pub clearsBytes : Event → Bool
-clearsBytes e = isKind 6 e || command 1 27 e
+clearsBytes e = isKind 6 e || (command 1 27 e || command 3 27 e)
 
 abbrev pub touch : ℕ → Event → ByteEvent
 touch k e = cond (isDone e) (cond (clearsBytes e) clear (cond (ownerWrites k e) write (cond (otherReads k e) read none))) none

@@ -31,6 +31,7 @@ pub record StateFits (st : State) : Type 0 where
   pub fromAddon : LaneFits (st .fromAddon)
   pub intcsr : st .intcsr < 2 ^ 32
   pub mcsr : st .mcsr < 2 ^ 32
+  pub aint : st .aint < 2 ^ 32
 
 -- Frames and the log: two digits hold the code of an answer, eight its address, eight its data, one its enables; its changed marks are bits of a register
 pub record AnswerFits (a : Answer) : Type 0 where

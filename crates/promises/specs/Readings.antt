@@ -7,15 +7,15 @@ use lib.Dec.{eqb, leb, ltb}
 use lib.Bits.{bitXor}
 use lib.ListN.{length, getD, set}
 use Rattle.machine.specs.Words.{bit, shown, merged, written}
-use Rattle.machine.specs.Sides.{pci, addon}
+use Rattle.machine.specs.Sides.{Side, pci, addon}
 use Rattle.machine.specs.State.{State, resetState}
-use Rattle.machine.specs.Access.{Access, accessOf, isRead, isWrite, cycles}
+use Rattle.machine.specs.Access.{Access, Kind, accessOf, isRead, isWrite, cycles}
 use Rattle.machine.specs.Offsets.{inTable, isReadOnly}
 use Rattle.machine.specs.Fifos.{front}
 use Rattle.machine.specs.Window.{placeOf}
-use Rattle.machine.specs.Mcsr.{mcsrKept, mcsrRead}
+use Rattle.machine.specs.Mcsr.{mcsrKept, mcsrRead, agcstsRead}
 use Rattle.machine.specs.Cycles.{addressKept, countKept, lowEnables, isReady}
-use Rattle.machine.specs.Intcsr.{intcsrKept, intcsrEvents, intcsrWritten, lineOf, intcsrRead}
+use Rattle.machine.specs.Interrupts.{interrupts, interruptsKept, flags, interruptsWritten, lineOf, interruptsRead}
 use Rattle.machine.specs.Code.{anyOf, isOutOfForm}
 use Rattle.machine.specs.Step.{register, stepOf}
 use Rattle.promises.specs.Account.{byteOf}
@@ -38,12 +38,14 @@ WrittenBits =
     (k : ℕ) → k < 32 → (keeps old new enables : ℕ)
     → bit (written keeps old new enables) k ≡ (cond (bit enables (k / 8)) (bit new k) (bit old k) && bit keeps k)
 
--- `kept-bits`: of what is written an address keeps all but 1:0, a count 25:0, INTCSR 4:0, 12:8 and 15:14, MCSR 15:12 and 10:8; INTCSR's flags are 21:16
+-- `kept-bits`: of what is written an address keeps all but 1:0, a count 25:0, INTCSR and AINT 4:0, 12:8 and 15:14, MCSR 15:12 and 10:8; INTCSR's flags
+-- are 21:16, AINT's 19:16 and 21
 pub record KeptBits (k : ℕ) : Type 0 where
   pub address : bit addressKept k ≡ leb 2 k
   pub count : bit countKept k ≡ leb k 25
-  pub intcsr : bit intcsrKept k ≡ (leb k 4 || leb 8 k && leb k 12 || eqb k 14 || eqb k 15)
-  pub events : bit intcsrEvents k ≡ (leb 16 k && leb k 21)
+  pub interrupts : bit interruptsKept k ≡ (leb k 4 || leb 8 k && leb k 12 || eqb k 14 || eqb k 15)
+  pub pciFlags : bit (flags pci) k ≡ (leb 16 k && leb k 21)
+  pub addonFlags : bit (flags addon) k ≡ (leb 16 k && leb k 19 || eqb k 21)
   pub mcsr : bit mcsrKept k ≡ (leb 12 k && leb k 15 || leb 8 k && leb k 10)
 
 abbrev pub KeptBitsHold : Type 0
@@ -53,18 +55,19 @@ KeptBitsHold = (k : ℕ) → k < 32 → KeptBits k
 abbrev pub LowEnables : Type 0
 LowEnables = (count i : ℕ) → bit (lowEnables count) i ≡ ltb i (min 4 count)
 
--- `intcsr-written-bits`: a kept bit is written where its byte is enabled; one of 16 to 21 is cleared by a one written where its byte is enabled; no other is held
-abbrev pub IntcsrWrittenBits : Type 0
-IntcsrWrittenBits =
-    (k : ℕ) → k < 32 → (old new enables : ℕ)
-    → bit (intcsrWritten old new enables) k
-    ≡ (cond (bit enables (k / 8)) (bit new k) (bit old k) && bit intcsrKept k || bit old k && bit intcsrEvents k && not (bit new k && bit enables (k / 8)))
+-- `interrupts-written-bits`: of INTCSR and of AINT, a kept bit is written where its byte is enabled; a flag is cleared by a one written where its byte is
+-- enabled; no other is held
+abbrev pub InterruptsWrittenBits : Type 0
+InterruptsWrittenBits =
+    (side : Side) (k : ℕ) → k < 32 → (old new enables : ℕ)
+    → bit (interruptsWritten side old new enables) k
+    ≡ (cond (bit enables (k / 8)) (bit new k) (bit old k) && bit interruptsKept k || bit old k && bit (flags side) k && not (bit new k && bit enables (k / 8)))
 
--- `intcsr-read-bits`: INTCSR of a state in form reads the kept bits and 16 to 21, bit 23 is the line, and other bits read zero
-abbrev pub IntcsrReadBits : Type 0
-IntcsrReadBits =
-    (st : State) → isOutOfForm st ≡ false → (k : ℕ) → k < 32
-    → (let i = st .intcsr in bit (intcsrRead i) k ≡ (bit i k && (bit intcsrKept k || bit intcsrEvents k) || lineOf i && eqb k 23))
+-- `interrupts-read-bits`: either of a state in form reads the kept bits and its flags, bit 23 is the line, and other bits read zero
+abbrev pub InterruptsReadBits : Type 0
+InterruptsReadBits =
+    (side : Side) (st : State) → isOutOfForm st ≡ false → (k : ℕ) → k < 32
+    → (let i = interrupts side st in bit (interruptsRead i) k ≡ (bit i k && (bit interruptsKept k || bit (flags side) k) || lineOf i && eqb k 23))
 
 -- `mcsr-read-bits`: MCSR of a state in form reads the status in bits 7 to 0, and the kept bits; other bits read zero
 pub record McsrStatus (st : State) : Type 0 where
@@ -81,6 +84,19 @@ pub record McsrStatus (st : State) : Type 0 where
 abbrev pub McsrReadBits : Type 0
 McsrReadBits = (st : State) → isOutOfForm st ≡ false → McsrStatus st
 
+-- `agcsts-read-bits`: AGCSTS reads the status of the FIFOs in bits 5 to 0, the FIFO from PCI above the other, and zero elsewhere
+pub record AgcstsStatus (st : State) : Type 0 where
+  pub pciEmpty : bit (agcstsRead st) 5 ≡ eqb (length (st .fromPci .words)) 0
+  pub pciFourFree : bit (agcstsRead st) 4 ≡ leb (length (st .fromPci .words)) 4
+  pub pciFull : bit (agcstsRead st) 3 ≡ leb 8 (length (st .fromPci .words))
+  pub addonEmpty : bit (agcstsRead st) 2 ≡ eqb (length (st .fromAddon .words)) 0
+  pub addonFourHeld : bit (agcstsRead st) 1 ≡ leb 4 (length (st .fromAddon .words))
+  pub addonFull : bit (agcstsRead st) 0 ≡ leb 8 (length (st .fromAddon .words))
+  pub others : (k : ℕ) → 6 ≤ k → bit (agcstsRead st) k ≡ false
+
+abbrev pub AgcstsReadBits : Type 0
+AgcstsReadBits = (st : State) → AgcstsStatus st
+
 -- ---- of the registers and the window
 
 -- the offset is one of a list
@@ -92,7 +108,7 @@ abbrev pub pciOffsets : List ℕ
 pciOffsets = 0x00 ∷ 0x04 ∷ 0x08 ∷ 0x0C ∷ 0x10 ∷ 0x14 ∷ 0x18 ∷ 0x1C ∷ 0x20 ∷ 0x24 ∷ 0x28 ∷ 0x2C ∷ 0x30 ∷ 0x34 ∷ 0x38 ∷ 0x3C ∷ []
 
 abbrev pub addonOffsets : List ℕ
-addonOffsets = 0x00 ∷ 0x04 ∷ 0x08 ∷ 0x0C ∷ 0x10 ∷ 0x14 ∷ 0x18 ∷ 0x1C ∷ 0x20 ∷ 0x34 ∷ []
+addonOffsets = 0x00 ∷ 0x04 ∷ 0x08 ∷ 0x0C ∷ 0x10 ∷ 0x14 ∷ 0x18 ∷ 0x1C ∷ 0x20 ∷ 0x34 ∷ 0x38 ∷ 0x3C ∷ []
 
 -- the read-only ones to PCI, and to the Add-On
 abbrev pub pciReadOnly : List ℕ
@@ -111,16 +127,19 @@ pub record OffsetTable (offset : ℕ) : Type 0 where
 abbrev pub OffsetTables : Type 0
 OffsetTables = (offset : ℕ) → OffsetTable offset
 
--- `register-table`: Register offsets, what is read at each of them but the FIFO port: the eight mailbox words, outgoing ones first, then the registers by name
+-- `register-table`: Register offsets, what each side reads at each of its own but the FIFO port: the eight mailbox words, outgoing ones first, then the
+-- registers by name
 pub record RegisterTable (st : State) : Type 0 where
-  pub mail : (i : ℕ) → i < 8 → register st (4 * i) ≡ getD (st .mail) i 0
-  pub writeAddress : register st 0x24 ≡ st .fromAddon .address
-  pub writeCount : register st 0x28 ≡ st .fromAddon .count
-  pub readAddress : register st 0x2C ≡ st .fromPci .address
-  pub readCount : register st 0x30 ≡ st .fromPci .count
-  pub status : register st 0x34 ≡ st .marks
-  pub intcsr : register st 0x38 ≡ intcsrRead (st .intcsr)
-  pub mcsr : register st 0x3C ≡ mcsrRead st
+  pub mail : (side : Side) (i : ℕ) → i < 8 → register side st (4 * i) ≡ getD (st .mail) i 0
+  pub writeAddress : register pci st 0x24 ≡ st .fromAddon .address
+  pub writeCount : register pci st 0x28 ≡ st .fromAddon .count
+  pub readAddress : register pci st 0x2C ≡ st .fromPci .address
+  pub readCount : register pci st 0x30 ≡ st .fromPci .count
+  pub status : (side : Side) → register side st 0x34 ≡ st .marks
+  pub intcsr : register pci st 0x38 ≡ interruptsRead (st .intcsr)
+  pub mcsr : register pci st 0x3C ≡ mcsrRead st
+  pub aint : register addon st 0x38 ≡ interruptsRead (st .aint)
+  pub agcsts : register addon st 0x3C ≡ agcstsRead st
 
 abbrev pub RegisterTables : Type 0
 RegisterTables = (st : State) → RegisterTable st
@@ -149,7 +168,7 @@ ReadAnswers =
     (st : State) (start : ℕ) (memory : List ℕ) (s : Step)
     → (let o = stepOf st start memory s in
     o .answer .code ≡ 0 → (eqb (s .kind) 0 || eqb (s .kind) 2) ≡ true → eqb (s .offset) 0x20 ≡ false
-    → (k : ℕ) → k < 32 → bit (o .answer .value) k ≡ (bit (register st (s .offset)) k && bit (s .enables) (k / 8)))
+    → (k : ℕ) → k < 32 → bit (o .answer .value) k ≡ (bit (register (cond (eqb (s .kind) 0) pci addon) st (s .offset)) k && bit (s .enables) (k / 8)))
 
 -- what a write cycle leaves of the memory: at the place of its address the lowest n bytes of the front word, the others as they were; all else as it was
 pub record WriteCycleStores (st : State) (start : ℕ) (memory after : List ℕ) : Type 0 where
@@ -187,55 +206,76 @@ ResetRule =
     (st : State) (start : ℕ) (memory : List ℕ) (s : Step)
     → (let o = stepOf st start memory s in
     o .answer .code ≡ 0 → eqb (s .kind) 6 ≡ true
-    → o ≡ record { state = resetState; memory = memory; answer = record { code = 0; address = 0; value = 0; enables = 0; line = false; changed = 0 } })
+    → o ≡ record { state = resetState; memory = memory; answer = record { code = 0; address = 0; value = 0; enables = 0; line = false; «addon_line» = false; changed = 0 } })
 
--- a register that keeps some bits and is written by PCI at an offset: what such a write leaves, or else `rest`
-abbrev pub unlessWritten : ℕ → ℕ → Step → ℕ → ℕ → ℕ
-unlessWritten at keeps s old rest = cond (eqb (s .kind) 1 && eqb (s .offset) at) (written keeps old (s .value) (s .enables)) rest
+-- a register that keeps some bits and is written by a kind of step at an offset: what such a write leaves, or else `rest`
+abbrev pub unlessWritten : ℕ → ℕ → ℕ → Step → ℕ → ℕ → ℕ
+unlessWritten kind at keeps s old rest = cond (eqb (s .kind) kind && eqb (s .offset) at) (written keeps old (s .value) (s .enables)) rest
 
 -- an address and a count register by their offset and the kind of their cycle, which adds 4 to the one (FFFFFFFC is followed by 0), and subtracts n from the other
 abbrev pub addressThen : ℕ → ℕ → Step → ℕ → ℕ
-addressThen at kind s old = unlessWritten at addressKept s old (cond (eqb (s .kind) kind) ((old + 4) % 2 ^ 32) old)
+addressThen at kind s old = unlessWritten 1 at addressKept s old (cond (eqb (s .kind) kind) ((old + 4) % 2 ^ 32) old)
 
 abbrev pub countThen : ℕ → ℕ → Step → ℕ → ℕ
-countThen at kind s old = unlessWritten at countKept s old (cond (eqb (s .kind) kind) (old - min 4 old) old)
+countThen at kind s old = unlessWritten 1 at countKept s old (cond (eqb (s .kind) kind) (old - min 4 old) old)
 
--- `register-rule`: after a done step that is no reset, the addresses, the counts, MCSR and bits 15 to 0 of INTCSR are as they were,
--- but for a PCI write of that register and, of an address or a count, its cycle
+-- `register-rule`: after a done step that is no reset, the addresses, the counts, MCSR and bits 15 to 0 of INTCSR and AINT are as they were,
+-- but for a write of that register, of AINT by the Add-On, else by PCI, and, of an address or a count, its cycle
 pub record RegistersThen (s : Step) (st after : State) : Type 0 where
   pub writeAddress : after .fromAddon .address ≡ addressThen 0x24 4 s (st .fromAddon .address)
   pub writeCount : after .fromAddon .count ≡ countThen 0x28 4 s (st .fromAddon .count)
   pub readAddress : after .fromPci .address ≡ addressThen 0x2C 5 s (st .fromPci .address)
   pub readCount : after .fromPci .count ≡ countThen 0x30 5 s (st .fromPci .count)
-  pub mcsr : after .mcsr ≡ unlessWritten 0x3C mcsrKept s (st .mcsr) (st .mcsr)
-  pub intcsr : (k : ℕ) → k < 16 → bit (after .intcsr) k ≡ bit (unlessWritten 0x38 intcsrKept s (st .intcsr) (st .intcsr)) k
+  pub mcsr : after .mcsr ≡ unlessWritten 1 0x3C mcsrKept s (st .mcsr) (st .mcsr)
+  pub intcsr : (k : ℕ) → k < 16 → bit (after .intcsr) k ≡ bit (unlessWritten 1 0x38 interruptsKept s (st .intcsr) (st .intcsr)) k
+  pub aint : (k : ℕ) → k < 16 → bit (after .aint) k ≡ bit (unlessWritten 3 0x38 interruptsKept s (st .aint) (st .aint)) k
 
 abbrev pub RegisterRule : Type 0
 RegisterRule =
     (st : State) (start : ℕ) (memory : List ℕ) (s : Step)
     → (let o = stepOf st start memory s in o .answer .code ≡ 0 → eqb (s .kind) 6 ≡ false → RegistersThen s st (o .state))
 
--- a one is written to bit k of INTCSR, its byte enabled
-abbrev pub acknowledges : ℕ → Access → Bool
-acknowledges k x = isWrite pci (x .kind) && eqb (x .offset) 0x38 && bit (x .enables) (k / 8) && bit (x .value) k
+-- a side writes a one to bit k of its interrupt register, its byte enabled
+abbrev pub acknowledges : Side → ℕ → Access → Bool
+acknowledges side k x = isWrite side (x .kind) && eqb (x .offset) 0x38 && bit (x .enables) (k / 8) && bit (x .value) k
 
--- What sets bit k of INTCSR. 16: the Add-On reads, of the outgoing mailbox that bits 3:2 choose, the byte that 1:0 choose, which is full, while bit 4 is set.
--- 17: the Add-On writes, of the incoming mailbox that bits 11:10 choose, the byte that 9:8 choose, which is empty, while bit 12 is set.
--- 18 and 19: a write or a read cycle whose count is at most 4.
-abbrev pub setsBit : ℕ → State → Access → Bool
-setsBit k st x =
-    let i = st .intcsr in
-    eqb k 16 && (isRead addon (x .kind) && (bit i 4 && (eqb (x .offset) (i / 2 ^ 2 % 4 * 4) && bit (x .enables) (i % 4) && bit (st .marks) (i % 16))))
-    || eqb k 17 && (isWrite addon (x .kind) && (bit i 12 && (eqb (x .offset) (0x10 + i / 2 ^ 10 % 4 * 4) && bit (x .enables) (i / 2 ^ 8 % 4) && not (bit (st .marks) (16 + i / 2 ^ 8 % 16)))))
+-- The accesses of the other side that can be events: of outgoing bytes and of incoming ones. The Add-On reads the former and writes the latter, PCI the
+-- other way round.
+abbrev pub touchesOutgoing : Side → Kind → Bool
+touchesOutgoing pci k = isRead addon k
+touchesOutgoing addon k = isWrite pci k
+
+abbrev pub touchesIncoming : Side → Kind → Bool
+touchesIncoming pci k = isWrite addon k
+touchesIncoming addon k = isRead pci k
+
+-- a mark that the access changes: full before a read, empty before a write
+abbrev pub changesMark : Kind → Bool → Bool
+changesMark k mark = cond (isRead pci k || isRead addon k) mark (not mark)
+
+-- What sets bit k of a side's interrupt register. 16: the other side touches, of the outgoing mailbox that bits 3:2 choose, the byte that 1:0 choose,
+-- whose mark changes, while bit 4 is set. 17: it touches, of the incoming mailbox that bits 11:10 choose, the byte that 9:8 choose, whose mark changes,
+-- while bit 12 is set. 18 and 19: a write or a read cycle whose count is at most 4.
+abbrev pub setsBit : Side → ℕ → State → Access → Bool
+setsBit side k st x =
+    let i = interrupts side st in
+    eqb k 16
+    && (touchesOutgoing side (x .kind)
+    && (bit i 4 && (eqb (x .offset) (i / 2 ^ 2 % 4 * 4) && bit (x .enables) (i % 4) && changesMark (x .kind) (bit (st .marks) (i % 16)))))
+    || eqb k 17
+    && (touchesIncoming side (x .kind)
+    && (bit i 12 && (eqb (x .offset) (0x10 + i / 2 ^ 10 % 4 * 4) && bit (x .enables) (i / 2 ^ 8 % 4) && changesMark (x .kind) (bit (st .marks) (16 + i / 2 ^ 8 % 16)))))
     || eqb k 18 && (cycles addon (x .kind) && leb (st .fromAddon .count) 4)
     || eqb k 19 && (cycles pci (x .kind) && leb (st .fromPci .count) 4)
 
--- `event-rule`: after a done step that is no reset, each of bits 16 to 21 is set if something sets it, or it was and nobody acknowledges it
+-- `event-rule`: one rule for INTCSR and AINT: after a done step that is no reset, each of its flags is set if something sets it, or it was and its side does
+-- not acknowledge it
 abbrev pub EventRule : Type 0
 EventRule =
-    (k : ℕ) → 16 ≤ k → k ≤ 21 → (st : State) (start : ℕ) (memory : List ℕ) (s : Step)
+    (side : Side) (k : ℕ) → k < 32 → bit (flags side) k ≡ true → (st : State) (start : ℕ) (memory : List ℕ) (s : Step)
     → (let o = stepOf st start memory s in let x = accessOf s in
-    o .answer .code ≡ 0 → eqb (s .kind) 6 ≡ false → bit (o .state .intcsr) k ≡ (bit (st .intcsr) k && not (acknowledges k x) || setsBit k st x))
+    o .answer .code ≡ 0 → eqb (s .kind) 6 ≡ false
+    → bit (interrupts side (o .state)) k ≡ (bit (interrupts side st) k && not (acknowledges side k x) || setsBit side k st x))
 
 -- ---- of an answer
 
@@ -246,24 +286,26 @@ ChangedRule =
     → (let o = stepOf st start memory s in
     o .answer .changed ≡ cond (eqb (o .answer .code) 0 && (ltb (s .kind) 4 && ltb (s .offset) 0x20)) (bitXor (st .marks) (o .state .marks)) 0)
 
--- INTCSR and MCSR: the interrupt line by the bits of INTCSR, four flags each with its enable, and two that need none
+-- INTCSR and MCSR, Ask 3: an interrupt line by the bits of its register, four flags each with its enable, and two that need none
 abbrev pub isLineHigh : ℕ → Bool
 isLineHigh i = anyOf (map (λ (pair : ℕ × ℕ). bit i (pair .0) && bit i (pair .1)) ((16, 4) ∷ (17, 12) ∷ (18, 14) ∷ (19, 15) ∷ [])) || (bit i 20 || bit i 21)
 
--- `line-rule`: every answer has the line of the state after the step, but zero for code 1
+-- `line-rule`: every answer has the lines of the state after the step, PCI's by INTCSR and the Add-On's by AINT, but zero for code 1
+pub record LinesThen (after : State) (a : Answer) : Type 0 where
+  pub line : a .line ≡ cond (eqb (a .code) 1) false (isLineHigh (after .intcsr))
+  pub addonLine : a .«addon_line» ≡ cond (eqb (a .code) 1) false (isLineHigh (after .aint))
+
 abbrev pub LineRule : Type 0
-LineRule =
-    (st : State) (start : ℕ) (memory : List ℕ) (s : Step)
-    → (let o = stepOf st start memory s in o .answer .line ≡ cond (eqb (o .answer .code) 1) false (isLineHigh (o .state .intcsr)))
+LineRule = (st : State) (start : ℕ) (memory : List ℕ) (s : Step) → (let o = stepOf st start memory s in LinesThen (o .state) (o .answer))
 
 -- byte i of a word in its place, if enable bit i is set
 abbrev pub byteIf : ℕ → ℕ → ℕ → ℕ
 byteIf word enables i = cond (bit enables i) (byteOf i word * 2 ^ (8 * i)) 0
 
 -- what a read answers: at the FIFO port the front word of a FIFO, else the enabled bytes of the register
-abbrev pub readThen : State → Step → List ℕ → ℕ
-readThen st s words =
-    let b = byteIf (register st (s .offset)) (s .enables) in
+abbrev pub readThen : Side → State → Step → List ℕ → ℕ
+readThen side st s words =
+    let b = byteIf (register side st (s .offset)) (s .enables) in
     cond (eqb (s .offset) 0x20) (front words) (b 0 + b 1 + b 2 + b 3)
 
 -- What a done step answers, a list by the kind's number: reads and writes of the host, of the card, the two cycles, the reset.
@@ -274,7 +316,7 @@ addresses st = 0 ∷ 0 ∷ 0 ∷ 0 ∷ st .fromAddon .address ∷ st .fromPci .a
 -- the word taken from the front, or the memory word's lowest n bytes,
 abbrev pub values : State → ℕ → List ℕ → Step → List ℕ
 values st start memory s =
-    readThen st s (st .fromAddon .words) ∷ 0 ∷ readThen st s (st .fromPci .words) ∷ 0 ∷ front (st .fromAddon .words)
+    readThen pci st s (st .fromAddon .words) ∷ 0 ∷ readThen addon st s (st .fromPci .words) ∷ 0 ∷ front (st .fromAddon .words)
     ∷ (getD memory (placeOf start (st .fromPci .address)) 0 % 2 ^ (8 * min 4 (st .fromPci .count)))
     ∷ 0 ∷ []
 
@@ -289,6 +331,7 @@ pub record AnswerThen (st : State) (start : ℕ) (memory : List ℕ) (s : Step) 
   pub value : a .value ≡ getD (values st start memory s) (s .kind) 0
   pub enables : a .enables ≡ getD (lowestEnables st) (s .kind) 0
   pub line : a .line ≡ isLineHigh (after .intcsr)
+  pub addonLine : a .«addon_line» ≡ isLineHigh (after .aint)
 
 abbrev pub AnswerRule : Type 0
 AnswerRule =

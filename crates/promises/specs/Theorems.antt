@@ -9,7 +9,7 @@ use Rattle.machine.specs.Words.{bit}
 use Rattle.machine.specs.Sides.{Side}
 use Rattle.machine.specs.State.{State, held, resetState}
 use Rattle.machine.specs.Access.{Access, accessOf}
-use Rattle.machine.specs.Intcsr.{lineOf}
+use Rattle.machine.specs.Interrupts.{lineOf}
 use Rattle.machine.specs.Code.{tests, testOf, isOutOfForm}
 use Rattle.machine.specs.Step.{stepOf, notAFrame}
 use Rattle.machine.specs.Event.{Event, loggedAnswers}
@@ -24,11 +24,11 @@ use Rattle.machine.specs.declared.Answer.{Answer}
 abbrev pub Numbered : Type 0
 Numbered = (st : State) (start : ℕ) (memory : List ℕ) (s : Step) → stepOf st start memory s .answer .code ≤ 13
 
--- an answer that only refuses: nothing but the code, and the line of the state (low for code 1)
+-- an answer that only refuses: nothing but the code, and the lines of the state (low for code 1)
 abbrev pub refusal : ℕ → State → Answer
-refusal code st = record { code = code; address = 0; value = 0; enables = 0; line = cond (eqb code 1) false (lineOf (st .intcsr)); changed = 0 }
+refusal code st = record { code = code; address = 0; value = 0; enables = 0; line = cond (eqb code 1) false (lineOf (st .intcsr)); «addon_line» = cond (eqb code 1) false (lineOf (st .aint)); changed = 0 }
 
--- `refused`: with a code other than 0 and 13 neither the controller nor the memory changes, and nothing but the code and the line is answered
+-- `refused`: with a code other than 0 and 13 neither the controller nor the memory changes, and nothing but the code and the lines is answered
 abbrev pub Refused : Type 0
 Refused =
     (st : State) (start : ℕ) (memory : List ℕ) (s : Step)
@@ -39,7 +39,7 @@ Refused =
 abbrev pub NotAFrameAnswer : Type 0
 NotAFrameAnswer = (st : State) → notAFrame st ≡ refusal 14 st
 
--- all but INTCSR is as it was, and INTCSR has bit 20 besides
+-- all but the interrupt registers is as it was; INTCSR has bit 20 besides, AINT bit 21
 pub record AbortOnly (st after : State) : Type 0 where
   pub mail : after .mail ≡ st .mail
   pub marks : after .marks ≡ st .marks
@@ -47,25 +47,31 @@ pub record AbortOnly (st after : State) : Type 0 where
   pub fromAddon : after .fromAddon ≡ st .fromAddon
   pub intcsr : (k : ℕ) → bit (after .intcsr) k ≡ (bit (st .intcsr) k || eqb k 20)
   pub mcsr : after .mcsr ≡ st .mcsr
+  pub aint : (k : ℕ) → bit (after .aint) k ≡ (bit (st .aint) k || eqb k 21)
 
 -- the address of a cycle: the write address for kind 4, the read address for kind 5
 abbrev pub cycleAddress : State → Step → ℕ
 cycleAddress st s = cond (eqb (s .kind) 4) (st .fromAddon .address) (cond (eqb (s .kind) 5) (st .fromPci .address) 0)
 
--- `aborted`: by code 13 flag 20 of INTCSR goes up and nothing else changes; it answers the address of the cycle, no data, no enables, and the line 1
+-- `aborted`: by code 13 flag 20 of INTCSR and flag 21 of AINT go up and nothing else changes; it answers the address of the cycle, no data, no enables,
+-- and both lines 1
 abbrev pub Aborted : Type 0
 Aborted =
     (st : State) (start : ℕ) (memory : List ℕ) (s : Step)
     → (let o = stepOf st start memory s in
     o .answer .code ≡ 13
     → AbortOnly st (o .state)
-    × ((o .memory ≡ memory) × (o .answer ≡ record { code = 13; address = cycleAddress st s; value = 0; enables = 0; line = true; changed = 0 })))
+    × ((o .memory ≡ memory) × (o .answer ≡ record { code = 13; address = cycleAddress st s; value = 0; enables = 0; line = true; «addon_line» = true; changed = 0 })))
 
--- `only-aborts`: a step sets INTCSR bit 20, which was clear, exactly if it answers 13
+-- `only-aborts`: a step sets INTCSR bit 20, which was clear, exactly if it answers 13; it sets AINT bit 21 exactly if that was clear and it answers 13
+pub record AbortsOnlyBy (code : ℕ) (st after : State) : Type 0 where
+  pub intcsr : (not (bit (st .intcsr) 20) && bit (after .intcsr) 20) ≡ eqb code 13
+  pub aint : (not (bit (st .aint) 21) && bit (after .aint) 21) ≡ (not (bit (st .aint) 21) && eqb code 13)
+
 abbrev pub OnlyAborts : Type 0
 OnlyAborts =
     (st : State) (start : ℕ) (memory : List ℕ) (s : Step)
-    → (let o = stepOf st start memory s in (not (bit (st .intcsr) 20) && bit (o .state .intcsr) 20) ≡ eqb (o .answer .code) 13)
+    → (let o = stepOf st start memory s in AbortsOnlyBy (o .answer .code) st (o .state))
 
 -- `lowest`: the code given applies, unless it is 0, and no code that applies is lower than it; with 0, none applies
 pub record Lowest (code : ℕ) (ts : List (ℕ × Bool)) : Type 0 where

@@ -15,7 +15,7 @@ use Rattle.machine.specs.declared.Answer.{Answer}
 
 -- one that refuses everything: it does as any rule does, but its code is never 0
 abbrev pub notDone : Answer → Answer
-notDone a = record { code = suc (a .code); address = a .address; value = a .value; enables = a .enables; line = a .line; changed = a .changed }
+notDone a = record { code = suc (a .code); address = a .address; value = a .value; enables = a .enables; line = a .line; «addon_line» = a .«addon_line»; changed = a .changed }
 
 abbrev pub refusing : Rule → Rule
 refusing rule st start memory s =

@@ -41,11 +41,12 @@ fn is_window_out_of_form(start: u32, words: usize) -> bool
 pub fn form(b: Bank, start: u32, words: usize) -> u32
     ensures { λ r. ⌜ ((mail pci addon : List ℕ) → r ≡ formCode (stateIn b mail pci addon) start words) ⌝ }
 {
-    let i = word::is_only(intcsr::KEPT | intcsr::EVENTS, b.intcsr);
+    let i = word::is_only(interrupts::KEPT | interrupts::INTCSR_FLAGS, b.intcsr);
     let m = word::is_only(mcsr::KEPT, b.mcsr);
+    let n = word::is_only(interrupts::KEPT | interrupts::AINT_FLAGS, b.aint);
     let p = is_lane_out_of_form(b.pci_fill, b.read_address, b.read_count);
     let a = is_lane_out_of_form(b.addon_fill, b.write_address, b.write_count);
-    if p | a | !i | !m {
+    if p | a | !i | !m | !n {
         return codes::STATE_OUT_OF_FORM;
     }
     if is_window_out_of_form(start, words) {
@@ -63,7 +64,11 @@ fn is_in_pci_table(offset: u32) -> bool
 fn is_in_addon_table(offset: u32) -> bool
     ensures { λ r. ⌜ r ≡ inTable sides.addon offset ⌝ }
 {
-    mailboxes::is_mailbox(offset) | (offset == offsets::FIFO_PORT) | (offset == offsets::STATUS)
+    mailboxes::is_mailbox(offset)
+        | (offset == offsets::FIFO_PORT)
+        | (offset == offsets::STATUS)
+        | (offset == offsets::INTERRUPTS)
+        | (offset == offsets::CONTROL)
 }
 
 // Code 4, unknown offset.
@@ -151,7 +156,7 @@ pub fn write_cycle_code(b: Bank, start: u32, words: usize) -> u32
     if count::is_zero(b.write_count) {
         return codes::COUNT_IS_ZERO;
     }
-    if intcsr::is_abort_in(b.intcsr) {
+    if interrupts::is_abort_in(b.intcsr) {
         return codes::ABORT_STANDS;
     }
     let four = word::bit(b.mcsr, mcsr::WRITE_FOUR);
@@ -174,7 +179,7 @@ pub fn read_cycle_code(b: Bank, start: u32, words: usize) -> u32
     if count::is_zero(b.read_count) {
         return codes::COUNT_IS_ZERO;
     }
-    if intcsr::is_abort_in(b.intcsr) {
+    if interrupts::is_abort_in(b.intcsr) {
         return codes::ABORT_STANDS;
     }
     let four = word::bit(b.mcsr, mcsr::READ_FOUR);

@@ -109,7 +109,7 @@ fn tell(went: Went) {
 fn main() {
     let mut memory = [0u32; 4096];
     let mut bytes = [0u8; 16384];
-    let mut out = [0u8; 655400];
+    let mut out = [0u8; 671785];
     let mut i = input::start();
     let mut ended = Went::More;
     let mut turns = u64::MAX;

@@ -1,4 +1,4 @@
-// States, windows and numbers that frames cannot reach. Each line of standard input is a case in 40 numbers of 8 hexadecimal
+// States, windows and numbers that frames cannot reach. Each line of standard input is a case in 41 numbers of 8 hexadecimal
 // digits: the state, the window and the step; see `tests/second/cases`. For each it writes the log line of the step, and a
 // line of numbers: the state left, the first word of memory that the step changed, if any, and the marks that it changed.
 use controller::ByteCount;
@@ -67,6 +67,7 @@ fn controller(line: &[u8]) -> Controller {
         from_addon,
         intcsr: field(line, 31),
         mcsr: field(line, 32),
+        aint: field(line, 33),
     }
 }
 
@@ -152,6 +153,7 @@ fn write_state(c: Controller) {
     write_lane(from_addon);
     write_number(c.intcsr);
     write_number(c.mcsr);
+    write_number(c.aint);
 }
 
 // Where the memory changed and to what; all ones and zero where it did not.
@@ -167,25 +169,25 @@ fn write_memory(memory: &[u32], base: u32) {
 }
 
 fn write_answer(a: Answer) {
-    let mut out = [0u8; 40];
+    let mut out = [0u8; 41];
     let n = logline::put_line(&mut out, 0, a, ENGLISH);
     io::write_all(STDOUT_FILENO, &out[..n]);
 }
 
 fn step_in(line: &[u8]) -> Step {
     Step {
-        kind: field(line, 36),
-        offset: field(line, 37),
-        enables: field(line, 38),
-        value: field(line, 39),
+        kind: field(line, 37),
+        offset: field(line, 38),
+        enables: field(line, 39),
+        value: field(line, 40),
     }
 }
 
 // One case over its window.
 fn run_case(line: &[u8], window: &mut [u32]) {
-    let base = field(line, 35);
+    let base = field(line, 36);
     filled(window, base);
-    let r = step::step(controller(line), window, field(line, 33), step_in(line));
+    let r = step::step(controller(line), window, field(line, 34), step_in(line));
     let a = r.answer;
     let c = r.controller;
     write_answer(a);
@@ -197,7 +199,7 @@ fn run_case(line: &[u8], window: &mut [u32]) {
 
 // The window has as many words as the case says, if there are so many.
 fn run_line(line: &[u8], memory: &mut [u32]) {
-    let words = field(line, 34) as usize;
+    let words = field(line, 35) as usize;
     if words <= memory.len() {
         run_case(line, &mut memory[..words]);
     }
@@ -213,7 +215,7 @@ fn run_lines(text: &[u8]) {
 }
 
 fn main() {
-    let mut text = [0u8; 262144];
+    let mut text = [0u8; 524288];
     let n = io::read_full(STDIN_FILENO, &mut text);
     run_lines(&text[..n]);
 }

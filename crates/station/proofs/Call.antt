@@ -27,8 +27,8 @@ empty-call set output s =
     (simp (s, enough), simp (s, enough))
 
 module _ (set : ℕ) (input output : List ℕ) where
-  -- the log has room where there are 40 bytes for each line
-  log-within : 40 * length (lines input) ≤ length output → length (programLog set input) ≤ length output
+  -- the log has room where there are 41 bytes for each line
+  log-within : 41 * length (lines input) ≤ length output → length (programLog set input) ≤ length output
   unfolding programLog
   log-within h = omega (arith, log-length set (textOutcome resetState 0 zeroWords input .answers), told-length resetState 0 zeroWords (lines input))
 
@@ -40,19 +40,19 @@ module _ (set : ℕ) (input output : List ℕ) where
   unfolding isTooLong resultOf outputOf
   unknown-set k n = let t = le-ltb 1_048_576 (length input) k in (simp (t, n), simp (t, n))
 
-  no-room : length input ≤ 1_048_576 → isSet set ≡ true → length output < 40 * length (lines input) → (resultOf set input output ≡ negsuc 0) × (outputOf set input output ≡ output)
+  no-room : length input ≤ 1_048_576 → isSet set ≡ true → length output < 41 * length (lines input) → (resultOf set input output ≡ negsuc 0) × (outputOf set input output ≡ output)
   unfolding isShort textRun fromReset isTooLong numberOf resultOf outputOf
   no-room k n h =
       let t = le-ltb 1_048_576 (length input) k in
-      let s = lt-ltb (length output) (40 * length (lines input)) h in
+      let s = lt-ltb (length output) (41 * length (lines input)) h in
       (simp (t, n, s), simp (t, n, s))
 
-  logged : length input ≤ 1_048_576 → isSet set ≡ true → 40 * length (lines input) ≤ length output
+  logged : length input ≤ 1_048_576 → isSet set ≡ true → 41 * length (lines input) ≤ length output
       → (resultOf set input output ≡ pos (length (programLog set input))) × (outputOf set input output ≡ programLog set input ++ drop (length (programLog set input)) output)
   unfolding isShort withLog textRun programLog fromReset isTooLong numberOf resultOf outputOf
   logged k n h =
       let t = le-ltb 1_048_576 (length input) k in
-      let s = le-ltb (length output) (40 * length (lines input)) h in
+      let s = le-ltb (length output) (41 * length (lines input)) h in
       (simp (t, n, s), simp (t, n, s))
 
 pub call-rule : CallRule

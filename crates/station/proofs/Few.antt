@@ -1,4 +1,4 @@
--- A run's log has at most 40 bytes for each line, so its length is a number of the C call.
+-- A run's log has at most 41 bytes for each line, so its length is a number of the C call.
 use Prim.Native.Nat.{ℕ, _*_, _≤_}
 use mathlib.Core.Path.{_≡_, refl}
 use mathlib.Core.Bool.{Bool, true, false}

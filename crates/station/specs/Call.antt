@@ -55,11 +55,11 @@ pub record CallByNumbers (set : ℕ) (input output : List ℕ) (r : ℤ) (after 
   pub tooLong : 1_048_576 < length input → (r ≡ negsuc 1) × (after ≡ output)
   -- any other, under a number that is no label set: -3, and the output is as it was
   pub unknownSet : length input ≤ 1_048_576 → isSet set ≡ false → (r ≡ negsuc 2) × (after ≡ output)
-  -- under a set, with an output shorter than 40 bytes a line: -1, and the output is as it was
-  pub noRoom : length input ≤ 1_048_576 → isSet set ≡ true → length output < 40 * length (lines input) → (r ≡ negsuc 0) × (after ≡ output)
+  -- under a set, with an output shorter than 41 bytes a line: -1, and the output is as it was
+  pub noRoom : length input ≤ 1_048_576 → isSet set ≡ true → length output < 41 * length (lines input) → (r ≡ negsuc 0) × (after ≡ output)
   -- else the number of bytes of the log: the output begins with the log program's log, every byte past it is as it was, and there are no more and no fewer
   pub logged :
-      length input ≤ 1_048_576 → isSet set ≡ true → 40 * length (lines input) ≤ length output
+      length input ≤ 1_048_576 → isSet set ≡ true → 41 * length (lines input) ≤ length output
       → (r ≡ pos (length (programLog set input))) × (after ≡ programLog set input ++ drop (length (programLog set input)) output) × (length after ≡ length output)
 
 -- `call-rule`: whatever input and output are, that is what `s5933_log` promises

@@ -15,7 +15,7 @@ use Rattle.machine.specs.Window.{placeOf, inside}
 use Rattle.machine.specs.Fifos.{amount}
 use Rattle.machine.specs.Mailboxes.{changes, marksAfter, mailAfter}
 use Rattle.machine.specs.Mcsr.{mcsrAfter}
-use Rattle.machine.specs.Intcsr.{intcsrAfter}
+use Rattle.machine.specs.Interrupts.{interruptsAfter}
 use Rattle.machine.specs.Cycles.{needed, isReady, stored, nextAddress, countLeft, runsOut, addressAfter, countAfter}
 use Rattle.machine.specs.Code.{cycleTests, isNotReady, isNoMemory}
 use Rattle.machine.specs.Step.{Reply, doneReply, abortedReply, replyOf, answered, doneState, abortedState, stateAfter, memoryAfter, respond}
@@ -74,8 +74,9 @@ module _ (st : State) (offset enables value word : ℕ) where
         fromAddon = record { words = drop 1 (st .fromAddon .words); address = nextAddress (st .fromAddon .address); count = countLeft (st .fromAddon .count) };
         intcsr = raised (st .intcsr) (runsOut (st .fromAddon .count)) 18;
         mcsr = st .mcsr;
+        aint = raised (st .aint) (runsOut (st .fromAddon .count)) 18;
       } ≡ doneState st (cycleBy addon offset enables value) word
-  unfolding doneState mailAfter changes marksAfter addressAfter countAfter intcsrAfter mcsrAfter
+  unfolding doneState mailAfter changes marksAfter addressAfter countAfter interruptsAfter mcsrAfter
   write-cycle-state = rw xor-zero-r
 
   pub read-cycle-state :
@@ -86,8 +87,9 @@ module _ (st : State) (offset enables value word : ℕ) where
         fromAddon = st .fromAddon;
         intcsr = raised (st .intcsr) (runsOut (st .fromPci .count)) 19;
         mcsr = st .mcsr;
+        aint = raised (st .aint) (runsOut (st .fromPci .count)) 19;
       } ≡ doneState st (cycleBy pci offset enables value) word
-  unfolding doneState mailAfter changes marksAfter addressAfter countAfter intcsrAfter mcsrAfter
+  unfolding doneState mailAfter changes marksAfter addressAfter countAfter interruptsAfter mcsrAfter
   read-cycle-state = rw xor-zero-r
 
 -- ---- what it brings about

@@ -10,20 +10,20 @@ use lib.ListN.{length, drop}
 use Rattle.laws.proofs.Tests.{none-applies, neither, and-at, or-right}
 use Rattle.laws.proofs.Bits.{bit-zero}
 use Rattle.laws.proofs.Done.{room-to-write}
-use borrow.Author.Tests.{eqb-false, lt-ltb, ne-eqb}
+use borrow.Author.Tests.{eqb-true, eqb-false, lt-ltb, ne-eqb, not-false}
 use Rattle.machine.specs.Words.{raised, shown, written}
 use Rattle.machine.specs.Commands.{clearsFifo}
 use Rattle.fifo.specs.Ring.{from}
 use Rattle.machine.specs.Sides.{Side, pci, addon, other, Party, host, card}
 use Rattle.machine.specs.State.{State, held}
-use Rattle.machine.specs.Offsets.{fifoPort}
+use Rattle.machine.specs.Offsets.{isMailbox, fifoPort, inTable}
 use Rattle.machine.specs.Access.{Access, writing, isReset, cycles, accessOf, reads, writes}
 use Rattle.machine.specs.Mailboxes.{changes, marksAfter, mailAfter}
 use Rattle.machine.specs.Mcsr.{mcsrAfter}
 use Rattle.machine.specs.Cycles.{addressKept, countKept, addressAfter, countAfter}
-use Rattle.machine.specs.Intcsr.{intcsrWritten, outgoingEvent, incomingEvent, intcsrAfter}
+use Rattle.machine.specs.Interrupts.{interruptsWritten, outgoingEvent, incomingEvent, notified, interruptsAfter}
 use Rattle.machine.specs.Fifos.{isFull, front}
-use Rattle.machine.specs.Code.{stepTests, isPortStuck, isFullOrEmpty}
+use Rattle.machine.specs.Code.{stepTests, isUnknownOffset, isPortStuck, isFullOrEmpty}
 use Rattle.machine.specs.declared.Step.{Step}
 use Rattle.machine.specs.declared.Answer.{Answer}
 use Rattle.refusal.specs.Codes.{accessCode}
@@ -90,18 +90,26 @@ done-step st start memory x code after reply answer zero reset store r a w = rw 
 -- accesses away from the FIFO port: what may change, and that nothing else does
 module _ (st : State) (s : Step) (elsewhere : s .offset ≡ 0x20 → ⊥) (word : ℕ) where
   pub pci-read-state : s .kind ≡ 0
-      → record { mail = st .mail; marks = bitXor (st .marks) (changes (accessOf s) (st .marks)); fromPci = st .fromPci; fromAddon = st .fromAddon; intcsr = st .intcsr; mcsr = st .mcsr } ≡ doneState st (accessOf s) word
-  unfolding doneState mailAfter marksAfter addressAfter countAfter intcsrAfter mcsrAfter
+      → record { mail = st .mail; marks = bitXor (st .marks) (changes (accessOf s) (st .marks)); fromPci = st .fromPci; fromAddon = st .fromAddon; intcsr = st .intcsr; mcsr = st .mcsr; aint = notified (st .aint) (changes (accessOf s) (st .marks)) } ≡ doneState st (accessOf s) word
+  unfolding doneState mailAfter marksAfter addressAfter countAfter interruptsAfter mcsrAfter
   pci-read-state k = rw k (simp (ne-eqb (s .offset) 0x20 elsewhere))
 
   pub addon-read-state : s .kind ≡ 2
-      → record { mail = st .mail; marks = bitXor (st .marks) (changes (accessOf s) (st .marks)); fromPci = st .fromPci; fromAddon = st .fromAddon; intcsr = raised (st .intcsr) (outgoingEvent (st .intcsr) (changes (accessOf s) (st .marks))) 16; mcsr = st .mcsr } ≡ doneState st (accessOf s) word
-  unfolding doneState mailAfter marksAfter addressAfter countAfter intcsrAfter mcsrAfter
+      → record { mail = st .mail; marks = bitXor (st .marks) (changes (accessOf s) (st .marks)); fromPci = st .fromPci; fromAddon = st .fromAddon; intcsr = notified (st .intcsr) (changes (accessOf s) (st .marks)); mcsr = st .mcsr; aint = st .aint } ≡ doneState st (accessOf s) word
+  unfolding doneState mailAfter marksAfter addressAfter countAfter interruptsAfter mcsrAfter
   addon-read-state k = rw k (simp (ne-eqb (s .offset) 0x20 elsewhere))
 
   pub addon-write-state : s .kind ≡ 3
-      → record { mail = mailAfter (accessOf s) (st .mail); marks = bitXor (st .marks) (changes (accessOf s) (st .marks)); fromPci = st .fromPci; fromAddon = st .fromAddon; intcsr = raised (st .intcsr) (incomingEvent (st .intcsr) (changes (accessOf s) (st .marks))) 17; mcsr = st .mcsr } ≡ doneState st (accessOf s) word
-  unfolding doneState marksAfter addressAfter countAfter intcsrAfter mcsrAfter
+      → record {
+        mail = mailAfter (accessOf s) (st .mail);
+        marks = marksAfter (accessOf s) (st .marks);
+        fromPci = record { words = cond (clearsFifo pci (accessOf s)) [] (st .fromPci .words); address = st .fromPci .address; count = st .fromPci .count };
+        fromAddon = record { words = cond (clearsFifo addon (accessOf s)) [] (st .fromAddon .words); address = st .fromAddon .address; count = st .fromAddon .count };
+        intcsr = notified (st .intcsr) (changes (accessOf s) (st .marks));
+        mcsr = st .mcsr;
+        aint = cond (eqb (s .offset) 0x38) (interruptsWritten addon (st .aint) (s .value) (s .enables)) (st .aint);
+      } ≡ doneState st (accessOf s) word
+  unfolding doneState addressAfter countAfter interruptsAfter mcsrAfter
   addon-write-state k = rw k (simp (ne-eqb (s .offset) 0x20 elsewhere))
 
   pub pci-write-state : s .kind ≡ 1
@@ -110,40 +118,41 @@ module _ (st : State) (s : Step) (elsewhere : s .offset ≡ 0x20 → ⊥) (word 
         marks = marksAfter (accessOf s) (st .marks);
         fromPci = record { words = cond (clearsFifo pci (accessOf s)) [] (st .fromPci .words); address = cond (eqb (s .offset) 0x2C) (written addressKept (st .fromPci .address) (s .value) (s .enables)) (st .fromPci .address); count = cond (eqb (s .offset) 0x30) (written countKept (st .fromPci .count) (s .value) (s .enables)) (st .fromPci .count) };
         fromAddon = record { words = cond (clearsFifo addon (accessOf s)) [] (st .fromAddon .words); address = cond (eqb (s .offset) 0x24) (written addressKept (st .fromAddon .address) (s .value) (s .enables)) (st .fromAddon .address); count = cond (eqb (s .offset) 0x28) (written countKept (st .fromAddon .count) (s .value) (s .enables)) (st .fromAddon .count) };
-        intcsr = cond (eqb (s .offset) 0x38) (intcsrWritten (st .intcsr) (s .value) (s .enables)) (st .intcsr);
+        intcsr = cond (eqb (s .offset) 0x38) (interruptsWritten pci (st .intcsr) (s .value) (s .enables)) (st .intcsr);
         mcsr = mcsrAfter (accessOf s) (st .mcsr);
+        aint = notified (st .aint) (changes (accessOf s) (st .marks));
       } ≡ doneState st (accessOf s) word
-  unfolding doneState addressAfter countAfter intcsrAfter
+  unfolding doneState addressAfter countAfter interruptsAfter
   pci-write-state k = rw k (simp (ne-eqb (s .offset) 0x20 elsewhere))
 
-  pub pci-read-reply : (start : ℕ) (memory : List ℕ) → s .kind ≡ 0 → showing (shown (register st (s .offset)) (s .enables)) (changes (accessOf s) (st .marks)) ≡ doneReply (accessOf s .kind) st start memory (accessOf s)
+  pub pci-read-reply : (start : ℕ) (memory : List ℕ) → s .kind ≡ 0 → showing (shown (register pci st (s .offset)) (s .enables)) (changes (accessOf s) (st .marks)) ≡ doneReply (accessOf s .kind) st start memory (accessOf s)
   unfolding doneReply readValue
   pci-read-reply start memory k = rw k (simp (ne-eqb (s .offset) 0x20 elsewhere))
 
-  pub addon-read-reply : (start : ℕ) (memory : List ℕ) → s .kind ≡ 2 → showing (shown (register st (s .offset)) (s .enables)) (changes (accessOf s) (st .marks)) ≡ doneReply (accessOf s .kind) st start memory (accessOf s)
+  pub addon-read-reply : (start : ℕ) (memory : List ℕ) → s .kind ≡ 2 → showing (shown (register addon st (s .offset)) (s .enables)) (changes (accessOf s) (st .marks)) ≡ doneReply (accessOf s .kind) st start memory (accessOf s)
   unfolding doneReply readValue
   addon-read-reply start memory k = rw k (simp (ne-eqb (s .offset) 0x20 elsewhere))
 
 -- accesses at it
 module _ (st : State) (s : Step) (port : s .offset ≡ 0x20) (word : ℕ) where
   pub pci-port-read-state : s .kind ≡ 0
-      → record { mail = st .mail; marks = st .marks; fromPci = st .fromPci; fromAddon = record { words = drop 1 (st .fromAddon .words); address = st .fromAddon .address; count = st .fromAddon .count }; intcsr = st .intcsr; mcsr = st .mcsr } ≡ doneState st (accessOf s) word
-  unfolding doneState mailAfter changes marksAfter addressAfter countAfter intcsrAfter mcsrAfter
-  pci-port-read-state k = rw (k, port) (simp xor-zero-r)
+      → record { mail = st .mail; marks = st .marks; fromPci = st .fromPci; fromAddon = record { words = drop 1 (st .fromAddon .words); address = st .fromAddon .address; count = st .fromAddon .count }; intcsr = st .intcsr; mcsr = st .mcsr; aint = st .aint } ≡ doneState st (accessOf s) word
+  unfolding doneState mailAfter changes marksAfter addressAfter countAfter interruptsAfter notified outgoingEvent incomingEvent raised mcsrAfter
+  pci-port-read-state k = rw (k, port) (simp (xor-zero-r, bit-zero, and-false))
 
   pub addon-port-read-state : s .kind ≡ 2
-      → record { mail = st .mail; marks = st .marks; fromPci = record { words = drop 1 (st .fromPci .words); address = st .fromPci .address; count = st .fromPci .count }; fromAddon = st .fromAddon; intcsr = st .intcsr; mcsr = st .mcsr } ≡ doneState st (accessOf s) word
-  unfolding doneState mailAfter changes marksAfter addressAfter countAfter intcsrAfter outgoingEvent raised mcsrAfter
+      → record { mail = st .mail; marks = st .marks; fromPci = record { words = drop 1 (st .fromPci .words); address = st .fromPci .address; count = st .fromPci .count }; fromAddon = st .fromAddon; intcsr = st .intcsr; mcsr = st .mcsr; aint = st .aint } ≡ doneState st (accessOf s) word
+  unfolding doneState mailAfter changes marksAfter addressAfter countAfter interruptsAfter notified outgoingEvent incomingEvent raised mcsrAfter
   addon-port-read-state k = rw (k, port) (simp (xor-zero-r, bit-zero, and-false))
 
   pub pci-port-write-state : s .kind ≡ 1
-      → record { mail = st .mail; marks = st .marks; fromPci = record { words = st .fromPci .words ++ s .value ∷ []; address = st .fromPci .address; count = st .fromPci .count }; fromAddon = st .fromAddon; intcsr = st .intcsr; mcsr = st .mcsr } ≡ doneState st (accessOf s) word
-  unfolding doneState mailAfter changes marksAfter addressAfter countAfter intcsrAfter mcsrAfter
-  pci-port-write-state k = rw (k, port) (simp xor-zero-r)
+      → record { mail = st .mail; marks = st .marks; fromPci = record { words = st .fromPci .words ++ s .value ∷ []; address = st .fromPci .address; count = st .fromPci .count }; fromAddon = st .fromAddon; intcsr = st .intcsr; mcsr = st .mcsr; aint = st .aint } ≡ doneState st (accessOf s) word
+  unfolding doneState mailAfter changes marksAfter addressAfter countAfter interruptsAfter notified outgoingEvent incomingEvent raised mcsrAfter
+  pci-port-write-state k = rw (k, port) (simp (xor-zero-r, bit-zero, and-false))
 
   pub addon-port-write-state : s .kind ≡ 3
-      → record { mail = st .mail; marks = st .marks; fromPci = st .fromPci; fromAddon = record { words = st .fromAddon .words ++ s .value ∷ []; address = st .fromAddon .address; count = st .fromAddon .count }; intcsr = st .intcsr; mcsr = st .mcsr } ≡ doneState st (accessOf s) word
-  unfolding doneState mailAfter changes marksAfter addressAfter countAfter intcsrAfter incomingEvent raised mcsrAfter
+      → record { mail = st .mail; marks = st .marks; fromPci = st .fromPci; fromAddon = record { words = st .fromAddon .words ++ s .value ∷ []; address = st .fromAddon .address; count = st .fromAddon .count }; intcsr = st .intcsr; mcsr = st .mcsr; aint = st .aint } ≡ doneState st (accessOf s) word
+  unfolding doneState mailAfter changes marksAfter addressAfter countAfter interruptsAfter notified outgoingEvent incomingEvent raised mcsrAfter
   addon-port-write-state k = rw (k, port) (simp (xor-zero-r, bit-zero, and-false))
 
   pub pci-port-reply : (start : ℕ) (memory : List ℕ) → s .kind ≡ 0 → showing (front (held addon st)) 0 ≡ doneReply (accessOf s .kind) st start memory (accessOf s)
@@ -167,6 +176,17 @@ module _ (st : State) (start : ℕ) (memory : List ℕ) (x : Access) (party : Pa
       none : (p : Party) → nothing ≡ showing 0 (changes (record { kind = writing p; offset = 0x20; enables = x .enables; value = x .value }) (st .marks))
       none host = refl
       none card = refl
+
+-- ---- what the Add-On reads
+
+-- a done read of the Add-On is of its table
+pub read-in-table : (st : State) (s : Step) → accessCode st (accessOf s) ≡ 0 → s .kind ≡ 2 → inTable addon (s .offset) ≡ true
+unfolding isUnknownOffset
+read-in-table st s e k = not-false _ (rw k at (none-applies (drop 3 (stepTests st 0 0 (accessOf s))) refl e 4))
+
+-- and if it is none of the others, of AGCSTS
+pub last-of-table : (o : ℕ) → inTable addon o ≡ true → isMailbox o ≡ false → (o ≡ 0x20 → ⊥) → (o ≡ 0x34 → ⊥) → (o ≡ 0x38 → ⊥) → o ≡ 0x3C
+last-of-table o t m a b c = eqb-true o 0x3C (rw (m, ne-eqb o 0x20 a, ne-eqb o 0x34 b, ne-eqb o 0x38 c) at t)
 
 -- a FIFO that is cleared has no words
 pub cleared-words : (clear : Bool) (places : List ℕ) (head fill : ℕ) → from 8 0 places head (cond clear 0 fill) ≡ cond clear [] (from 8 0 places head fill)

@@ -1,13 +1,15 @@
 // One step of the controller, by kind: on a bank of its numbers, with its words and the host memory lent, and by value above it.
 // Each kind looks at what it needs and changes what it can change; that the rest stays is proved, not computed.
 ghost use mathlib.Core.Path.{_≡_};
+ghost use mathlib.Core.Bool.{true};
 ghost use mathlib.Core.List.{List};
 ghost use Prim.Native.Nat.{ℕ};
 ghost use lib.ListN.{length};
 ghost use Rattle.machine.specs.Sides as sides;
 ghost use Rattle.machine.specs.State.{resetState};
 ghost use Rattle.machine.specs.Access.{accessOf};
-ghost use Rattle.machine.specs.Mailboxes.{mailAfter};
+ghost use Rattle.machine.specs.Offsets.{inTable};
+ghost use Rattle.machine.specs.Mailboxes.{changes, mailAfter};
 ghost use Rattle.machine.specs.Step.{nothing, register, answered, doneState, abortedState};
 ghost use Rattle.bank.specs.Bank.{stateIn};
 ghost use Rattle.step.specs.Parts.{outcomeIn, toldStep, Accessed, Cycled};
@@ -39,38 +41,43 @@ const RUN: usize = 8;
 
 // ---- answers
 
-// What is answered, with the line of the state that is left, but for code 1.
+// What is answered, with the lines of the state that is left, but for code 1.
 fn answered(b: Bank, code: u32, address: u32, value: u32, enables: u32, changed: u32) -> Banked
     ensures { λ r. ⌜ (r .bank ≡ b) × ((mail pci addon : List ℕ) → r .answer ≡ answered (stateIn b mail pci addon) code (record { address = address; value = value; enables = enables; changed = changed })) ⌝ }
 {
-    let i = intcsr::line(b.intcsr);
+    let i = interrupts::line(b.intcsr);
+    let a = interrupts::line(b.aint);
     let line = (code != codes::STATE_OUT_OF_FORM) & i;
+    let addon_line = (code != codes::STATE_OUT_OF_FORM) & a;
     let answer = Answer {
         code,
         address,
         value,
         enables,
         line,
+        addon_line,
         changed,
     };
     Banked { bank: b, answer }
 }
 
-// Code 13: INTCSR bit 20 is set, and the address answered.
+// Code 13: the abort flags are set, and the address answered.
 fn aborted(b: Bank, address: u32) -> Banked
     ensures { λ r. ⌜ ((mail pci addon : List ℕ) → (stateIn (r .bank) mail pci addon ≡ abortedState (stateIn b mail pci addon)) × (r .answer ≡ answered (abortedState (stateIn b mail pci addon)) 13 (record { address = address; value = 0; enables = 0; changed = 0 }))) ⌝ }
 {
-    let i = intcsr::aborted(b.intcsr);
+    let i = interrupts::intcsr_aborted(b.intcsr);
+    let a = interrupts::aint_aborted(b.aint);
     let mut next = b;
     next.intcsr = i;
+    next.aint = a;
     answered(next, codes::NO_MEMORY_THERE, address, 0, 0, 0)
 }
 
 // ---- the kinds
 
-// The register at an offset, but for the FIFO port.
-fn register(b: Bank, mail: &[u32], offset: u32) -> u32
-    ensures { λ r. ⌜ ((pci addon : List ℕ) → r ≡ register (stateIn b (now (mail .entry)) pci addon) offset) ⌝ }
+// The register of PCI at an offset, but for the FIFO port.
+fn pci_register(b: Bank, mail: &[u32], offset: u32) -> u32
+    ensures { λ r. ⌜ ((pci addon : List ℕ) → r ≡ register sides.pci (stateIn b (now (mail .entry)) pci addon) offset) ⌝ }
 {
     if mailboxes::is_mailbox(offset) {
         return mailboxes::mail_word(mail, offset);
@@ -90,13 +97,30 @@ fn register(b: Bank, mail: &[u32], offset: u32) -> u32
     if offset == offsets::STATUS {
         return b.marks;
     }
-    if offset == offsets::INTCSR {
-        return intcsr::read(b.intcsr);
+    if offset == offsets::INTERRUPTS {
+        return interrupts::read(b.intcsr);
     }
     mcsr::mcsr_read(b)
 }
 
-// A PCI read: at the port the front word of the FIFO from the Add-On leaves; elsewhere no more than a mark changes.
+// The register of the Add-On at an offset of its table, but for the FIFO port.
+fn addon_register(b: Bank, mail: &[u32], offset: u32) -> u32
+    requires { ⌜ inTable sides.addon offset ≡ true ⌝ }
+    ensures { λ r. ⌜ ((offset ≡ 0x20 → ⊥) → (pci addon : List ℕ) → r ≡ register sides.addon (stateIn b (now (mail .entry)) pci addon) offset) ⌝ }
+{
+    if mailboxes::is_mailbox(offset) {
+        return mailboxes::mail_word(mail, offset);
+    }
+    if offset == offsets::STATUS {
+        return b.marks;
+    }
+    if offset == offsets::INTERRUPTS {
+        return interrupts::read(b.aint);
+    }
+    mcsr::agcsts_read(b)
+}
+
+// A PCI read: at the port the front word of the FIFO from the Add-On leaves; elsewhere marks may change, which is an event of AINT.
 fn pci_read(b: Bank, mail: &[u32], addon: &[u32], s: Step) -> Banked
     requires { ⌜ s .kind ≡ 0 ⌝ }
     ensures { λ r. ⌜ ((pci : List ℕ) → Accessed s (stateIn b (now (mail .entry)) pci (now (addon .entry))) (outcomeIn r (now (mail .entry)) pci (now (addon .entry)))) ⌝ }
@@ -114,13 +138,15 @@ fn pci_read(b: Bank, mail: &[u32], addon: &[u32], s: Step) -> Banked
         next.addon_fill = n;
         return answered(next, codes::DONE, 0, x, 0, 0);
     }
-    let x = word::shown(register(b, mail, s.offset), s.enables);
+    let x = word::shown(pci_register(b, mail, s.offset), s.enables);
     let changed = mailboxes::changes(s, b.marks);
+    let a = interrupts::notified(b.aint, changed);
     next.marks = b.marks ^ changed;
+    next.aint = a;
     answered(next, codes::DONE, 0, x, 0, changed)
 }
 
-// An Add-On read: the same with the FIFO from PCI, and an event.
+// An Add-On read: the same with the FIFO from PCI, and INTCSR.
 fn addon_read(b: Bank, mail: &[u32], pci: &[u32], s: Step) -> Banked
     requires { ⌜ s .kind ≡ 2 ⌝ }
     ensures { λ r. ⌜ ((addon : List ℕ) → Accessed s (stateIn b (now (mail .entry)) (now (pci .entry)) addon) (outcomeIn r (now (mail .entry)) (now (pci .entry)) addon)) ⌝ }
@@ -138,18 +164,19 @@ fn addon_read(b: Bank, mail: &[u32], pci: &[u32], s: Step) -> Banked
         next.pci_fill = n;
         return answered(next, codes::DONE, 0, x, 0, 0);
     }
-    let x = word::shown(register(b, mail, s.offset), s.enables);
+    let x = word::shown(addon_register(b, mail, s.offset), s.enables);
     let changed = mailboxes::changes(s, b.marks);
-    let i = intcsr::after_addon_read(b.intcsr, changed);
+    let i = interrupts::notified(b.intcsr, changed);
     next.marks = b.marks ^ changed;
     next.intcsr = i;
     answered(next, codes::DONE, 0, x, 0, changed)
 }
 
 // The numbers after a PCI write to a register that is not the FIFO port.
-fn operation_write(b: Bank, s: Step) -> Bank
+fn operation_write(b: Bank, s: Step, changed: u32) -> Bank
     requires { ⌜ s .kind ≡ 1 ⌝ }
     requires { ⌜ (s .offset ≡ 0x20 → ⊥) ⌝ }
+    requires { ⌜ changed ≡ changes (accessOf s) (b .marks) ⌝ }
     ensures { λ r. ⌜ ((mail pci addon : List ℕ) (word : ℕ) → stateIn r (mailAfter (accessOf s) mail) pci addon ≡ doneState (stateIn b mail pci addon) (accessOf s) word) ⌝ }
 {
     let marks = mailboxes::marks_after(s, b.marks);
@@ -157,19 +184,18 @@ fn operation_write(b: Bank, s: Step) -> Bank
     let read_count = count::written(offsets::READ_COUNT, s, b.read_count);
     let write_address = address::written(offsets::WRITE_ADDRESS, s, b.write_address);
     let write_count = count::written(offsets::WRITE_COUNT, s, b.write_count);
-    let intcsr = intcsr::after_pci_write(b.intcsr, s);
+    let intcsr = interrupts::intcsr_written(b.intcsr, s);
     let mcsr = mcsr::mcsr_after(s, b.mcsr);
-    let pci_fill = fifo::left(commands::commands(commands::CLEAR_FROM_PCI, s), b.pci_fill);
-    let addon_fill = fifo::left(
-        commands::commands(commands::CLEAR_FROM_ADDON, s),
-        b.addon_fill,
-    );
+    let aint = interrupts::notified(b.aint, changed);
+    let pci_fill = fifo::left(commands::clears_from_pci(s), b.pci_fill);
+    let addon_fill = fifo::left(commands::clears_from_addon(s), b.addon_fill);
     let pci_head = b.pci_head;
     let addon_head = b.addon_head;
     Bank {
         marks,
         intcsr,
         mcsr,
+        aint,
         read_address,
         read_count,
         pci_head,
@@ -200,10 +226,11 @@ fn pci_write(b: Bank, mail: &mut [u32], pci: &mut [u32], s: Step) -> Banked
     }
     mailboxes::store(mail, s);
     let changed = mailboxes::changes(s, b.marks);
-    answered(operation_write(b, s), codes::DONE, 0, 0, 0, changed)
+    let next = operation_write(b, s, changed);
+    answered(next, codes::DONE, 0, 0, 0, changed)
 }
 
-// An Add-On write: a word into the FIFO from the Add-On, or a mailbox, and an event.
+// An Add-On write: a word into the FIFO from the Add-On, a mailbox, which is an event of INTCSR, AINT, or clears by AGCSTS.
 fn addon_write(b: Bank, mail: &mut [u32], addon: &mut [u32], s: Step) -> Banked
     requires { ⌜ s .kind ≡ 3 ⌝ }
     requires { ⌜ length (now addon) ≡ 8 ⌝ }
@@ -222,9 +249,16 @@ fn addon_write(b: Bank, mail: &mut [u32], addon: &mut [u32], s: Step) -> Banked
     }
     mailboxes::store(mail, s);
     let changed = mailboxes::changes(s, b.marks);
-    let i = intcsr::after_addon_write(b.intcsr, changed);
-    next.marks = b.marks ^ changed;
+    let m = mailboxes::marks_after(s, b.marks);
+    let i = interrupts::notified(b.intcsr, changed);
+    let a = interrupts::aint_written(b.aint, s);
+    let p = fifo::left(commands::clears_from_pci(s), b.pci_fill);
+    let n = fifo::left(commands::clears_from_addon(s), b.addon_fill);
+    next.marks = m;
     next.intcsr = i;
+    next.aint = a;
+    next.pci_fill = p;
+    next.addon_fill = n;
     answered(next, codes::DONE, 0, 0, 0, changed)
 }
 
@@ -246,7 +280,8 @@ fn write_cycle(b: Bank, addon: &[u32], memory: &mut [u32], start: u32) -> Banked
     memory[at] = word::merged(memory[at], x, e);
     let h = fifo::past(b.addon_head);
     let n = fifo::one_less(b.addon_fill);
-    let i = intcsr::after_write_cycle(b.intcsr, b.write_count);
+    let i = interrupts::after_write_cycle(b.intcsr, b.write_count);
+    let a = interrupts::after_write_cycle(b.aint, b.write_count);
     let less = count::count_left(b.write_count);
     let on = address::next_address(address);
     let mut next = b;
@@ -255,6 +290,7 @@ fn write_cycle(b: Bank, addon: &[u32], memory: &mut [u32], start: u32) -> Banked
     next.write_address = on;
     next.write_count = less;
     next.intcsr = i;
+    next.aint = a;
     answered(next, codes::DONE, address, x, e, 0)
 }
 
@@ -276,7 +312,8 @@ fn read_cycle(b: Bank, pci: &mut [u32], memory: &[u32], start: u32) -> Banked
     let x = word::shown(memory[at], e);
     fifo::push(pci, b.pci_head, b.pci_fill, x);
     let n = fifo::one_more(b.pci_fill);
-    let i = intcsr::after_read_cycle(b.intcsr, b.read_count);
+    let i = interrupts::after_read_cycle(b.intcsr, b.read_count);
+    let a = interrupts::after_read_cycle(b.aint, b.read_count);
     let less = count::count_left(b.read_count);
     let on = address::next_address(address);
     let mut next = b;
@@ -284,6 +321,7 @@ fn read_cycle(b: Bank, pci: &mut [u32], memory: &[u32], start: u32) -> Banked
     next.read_address = on;
     next.read_count = less;
     next.intcsr = i;
+    next.aint = a;
     answered(next, codes::DONE, address, x, e, 0)
 }
 
@@ -304,6 +342,7 @@ fn reset(mail: &mut [u32]) -> Banked
         marks: 0,
         intcsr: 0,
         mcsr: 0,
+        aint: 0,
         read_address: 0,
         read_count: ByteCount(0),
         pci_head: 0,

@@ -11,13 +11,13 @@ use Rattle.both_forms.proofs.write_log.Statement.{statement}
 use Rattle.both_forms.proofs.write_log.Tie as tie
 
 abbrev Inv-loop : tie.InvT-loop
-Inv-loop text is-in-place memory₀ out₀ c₀ before₀ at₀ memory out c before at = (length memory ≡ 4096) × (length out ≡ 40)
+Inv-loop text is-in-place memory₀ out₀ c₀ before₀ at₀ memory out c before at = (length memory ≡ 4096) × (length out ≡ 41)
 
 abbrev μ-loop : tie.MeasureT-loop
 μ-loop text is-in-place memory₀ out₀ c₀ before₀ at₀ memory out c before at = length text - at
 
 loop-holds : tie.Need-loop-holds Inv-loop μ-loop
-loop-holds c = (length-replicate {A = ℕ} 4096 0, length-replicate {A = ℕ} 40 0)
+loop-holds c = (length-replicate {A = ℕ} 4096 0, length-replicate {A = ℕ} 41 0)
 
 -- a log line is within the array
 few : (c : tie.After-put-line Inv-loop μ-loop) → c .put-line .result ≤ length (c .put-line .last .0)

@@ -18,7 +18,7 @@ returns-2 : tie.Need-returns-2
 unfolding framedOutcome stateOf
 returns-2 c =
     let a = c .before .before .before .before .args in
-    rw (c .not-a-frame .ensures (stateOf (a .c)) refl) (ap (λ (f : Framed). framedOutcome f (stateOf (a .c)) (a .start) (now (a .memory))) (sym (c .before .enum-told .given .1)))
+    rw (c .not-a-frame .ensures (stateOf (a .c)) refl refl) (ap (λ (f : Framed). framedOutcome f (stateOf (a .c)) (a .start) (now (a .memory))) (sym (c .before .enum-told .given .1)))
 
 pub answer-spec : {M : Type 1} → statement M
 answer-spec =

@@ -18,7 +18,7 @@ returns-2 : tie.Need-returns-2
 unfolding framedOutcome stateIn
 returns-2 c =
     let a = c .before .before .before .before .before .before .before .args in
-    rw (c .not-a-frame .ensures (stateIn (a .b) (now (a .mail)) (now (a .pci)) (now (a .addon))) refl)
+    rw (c .not-a-frame .ensures (stateIn (a .b) (now (a .mail)) (now (a .pci)) (now (a .addon))) refl refl)
     (ap (λ (f : Framed). framedOutcome f (stateIn (a .b) (now (a .mail)) (now (a .pci)) (now (a .addon))) (a .start) (now (a .memory))) (sym (c .before .enum-told .given .1)))
 
 pub banked-spec : {M : Type 1} → statement M

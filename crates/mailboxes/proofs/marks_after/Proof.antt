@@ -10,13 +10,13 @@ use Rattle.mailboxes.proofs.marks_after.Tie as tie
 returns : tie.Need-returns
 unfolding marksAfter
 returns c =
-    let on : clearsMarks (accessOf (c .before .before .args .s)) ≡ true = sym (c .before .commands .ensures) ∙ c .if1 .taken in
+    let on : clearsMarks (accessOf (c .before .before .args .s)) ≡ true = sym (c .before .clears-marks .ensures) ∙ c .if1 .taken in
     simp on
 
 returns-2 : tie.Need-returns-2
 unfolding marksAfter
 returns-2 c =
-    let off : clearsMarks (accessOf (c .before .before .before .args .s)) ≡ false = sym (c .before .before .commands .ensures) ∙ c .before .if1 .left in
+    let off : clearsMarks (accessOf (c .before .before .before .args .s)) ≡ false = sym (c .before .before .clears-marks .ensures) ∙ c .before .if1 .left in
     simp (off, c .changes .ensures)
 
 pub marks-after-spec : {M : Type 1} → statement M

@@ -6,13 +6,13 @@ use Rattle.s5933_log.proofs.main.Statement.{statement}
 use Rattle.s5933_log.proofs.main.Tie as tie
 
 abbrev Inv-loop : tie.InvT-loop
-Inv-loop memory₀ bytes₀ out₀ i₀ ended₀ turns₀ memory bytes out i ended turns = (length memory ≡ 4096) × (length bytes ≡ 16384) × (length out ≡ 655400)
+Inv-loop memory₀ bytes₀ out₀ i₀ ended₀ turns₀ memory bytes out i ended turns = (length memory ≡ 4096) × (length bytes ≡ 16384) × (length out ≡ 671785)
 
 abbrev μ-loop : tie.MeasureT-loop
 μ-loop memory₀ bytes₀ out₀ i₀ ended₀ turns₀ memory bytes out i ended turns = turns
 
 loop-holds : tie.Need-loop-holds Inv-loop μ-loop
-loop-holds c = (length-replicate {A = ℕ} 4096 0, length-replicate {A = ℕ} 16384 0, length-replicate {A = ℕ} 655400 0)
+loop-holds c = (length-replicate {A = ℕ} 4096 0, length-replicate {A = ℕ} 16384 0, length-replicate {A = ℕ} 671785 0)
 
 pub main-spec : {M : Type 1} → statement M
 main-spec =

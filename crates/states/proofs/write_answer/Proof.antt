@@ -10,7 +10,7 @@ use Rattle.states.proofs.write_answer.Tie as tie
 
 -- a log line is within the array
 few : (c : tie.After-put-line) → c .put-line .result ≤ length (c .put-line .last .0)
-few c = omega (arith, c .put-line .ensures .next, line-in-fits 0 (replicate 40 0) 0 (c .before .before .args .a), c .put-line .kept .0, length-replicate {A = ℕ} 40 0)
+few c = omega (arith, c .put-line .ensures .next, line-in-fits 0 (replicate 41 0) 0 (c .before .before .args .a), c .put-line .kept .0, length-replicate {A = ℕ} 40 0)
 
 array-share-prefix-out : tie.Need-array-share-prefix-out
 array-share-prefix-out c = omega (arith, few (c .before))

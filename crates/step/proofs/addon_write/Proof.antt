@@ -1,12 +1,16 @@
 use denote.Ref.{now}
-use mathlib.Core.Path.{sym, _∙_}
+use mathlib.Core.Path.{_≡_, sym, _∙_}
+use mathlib.Core.Bool.{cond}
 use mathlib.Core.List.{[]}
 use Rattle.machine.specs.Access.{accessOf}
 use Rattle.machine.specs.Step.{nothing, showing}
 use Rattle.refusal.specs.Codes.{accessCode}
 use Rattle.bank.specs.Bank.{stateIn}
+use Rattle.machine.specs.Sides as sides
 use Rattle.machine.specs.Sides.{card}
-use Rattle.step.proofs.Laws.{refusal, done-step, one-more-in, addon-port-write, addon-port-write-state, write-reply, port-write-reply, addon-write-state}
+use Rattle.machine.specs.Commands.{clearsFifo}
+use Rattle.fifo.specs.Ring.{from}
+use Rattle.step.proofs.Laws.{refusal, done-step, one-more-in, addon-port-write, addon-port-write-state, write-reply, port-write-reply, addon-write-state, cleared-words}
 use borrow.Author.Needs.{needs}
 use Rattle.step.proofs.addon_write.Statement.{statement}
 use Rattle.step.proofs.addon_write.Tie as tie
@@ -38,17 +42,23 @@ returns-2 c = λ pci start memory.
 returns-3 : tie.Need-returns-3
 unfolding stateIn
 returns-3 c = λ pci start memory.
-    let a = c .before .before .before .before .before .before .before .before .before .before .before .before .before .before .args in
-    let k = c .before .before .before .before .before .before .before .before .before .before .before .before .before .before .pre .0 in
-    let code = c .before .before .before .before .before .before .before .before .before .before .before .access-code in
-    let st = stateIn (a .b) (now (a .mail)) pci (now (a .addon)) in
+    let a = c .before .before .before .before .before .before .before .before .before .before .before .before .before .before .before .before .before .before .before .args in
+    let b = a .b in
+    let x = accessOf (a .s) in
+    let k = c .before .before .before .before .before .before .before .before .before .before .before .before .before .before .before .before .before .before .before .pre .0 in
+    let code = c .before .before .before .before .before .before .before .before .before .before .before .before .before .before .before .before .access-code in
+    let st = stateIn b (now (a .mail)) pci (now (a .addon)) in
+    let p : from 8 0 pci (b .«pci_head») (c .before .before .before .left .result .0) ≡ cond (clearsFifo sides.pci x) [] (from 8 0 pci (b .«pci_head») (b .«pci_fill» .0)) =
+    rw (c .before .before .before .left .ensures, c .before .before .before .before .clears-from-pci .ensures) (cleared-words (clearsFifo sides.pci x) pci (b .«pci_head») (b .«pci_fill» .0)) in
+    let q : from 8 0 (now (a .addon)) (b .«addon_head») (c .before .left2 .result .0) ≡ cond (clearsFifo sides.addon x) [] (from 8 0 (now (a .addon)) (b .«addon_head») (b .«addon_fill» .0)) =
+    rw (c .before .left2 .ensures, c .before .before .clears-from-addon .ensures) (cleared-words (clearsFifo sides.addon x) (now (a .addon)) (b .«addon_head») (b .«addon_fill» .0)) in
     rw (c .answered3 .ensures .0)
-    (done-step st start memory (accessOf (a .s)) (accessCode st (accessOf (a .s))) _ (showing 0 (c .before .before .before .changes .result)) _
-    (sym (code .ensures .1 (now (a .mail)) pci (now (a .addon))) ∙ c .before .before .before .before .before .before .before .before .before .before .if1 .left)
+    (done-step st start memory x (accessCode st x) _ (showing 0 (c .before .before .before .before .before .before .before .before .changes .result)) _
+    (sym (code .ensures .1 (now (a .mail)) pci (now (a .addon))) ∙ c .before .before .before .before .before .before .before .before .before .before .before .before .before .before .before .if1 .left)
     (rw k) (rw k)
-    (rw (c .before .before .before .changes .ensures) (write-reply st start memory (accessOf (a .s)) card (rw k)))
-    (rw (c .before .before .after-addon-write .ensures, c .before .before .before .changes .ensures, c .before .before .before .before .before .before .store .ensures) (addon-write-state st (a .s) (c .before .before .before .before .before .before .before .before .if2 .left) 0 k))
-    (c .answered3 .ensures .1 (c .before .before .before .before .before .before .store .last .0) pci (now (a .addon))))
+    (rw (c .before .before .before .before .before .before .before .before .changes .ensures) (write-reply st start memory x card (rw k)))
+    (rw (p, q, c .before .before .before .before .before .aint-written .ensures, c .before .before .before .before .before .before .notified .ensures, c .before .before .before .before .before .before .before .marks-after .ensures, c .before .before .before .before .before .before .before .before .changes .ensures, c .before .before .before .before .before .before .before .before .before .before .before .store .ensures) (addon-write-state st (a .s) (c .before .before .before .before .before .before .before .before .before .before .before .before .before .if2 .left) 0 k))
+    (c .answered3 .ensures .1 (c .before .before .before .before .before .before .before .before .before .before .before .store .last .0) pci (now (a .addon))))
 
 pub addon-write-spec : {M : Type 1} → statement M
 addon-write-spec =
@@ -62,6 +72,12 @@ addon-write-spec =
     (λ c κs. search needs)
     (λ c. search needs)
     returns-2
+    (λ c κs. search needs)
+    (λ c κs. search needs)
+    (λ c κs. search needs)
+    (λ c κs. search needs)
+    (λ c κs. search needs)
+    (λ c κs. search needs)
     (λ c κs. search needs)
     (λ c κs. search needs)
     (λ c κs. search needs)

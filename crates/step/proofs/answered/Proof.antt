@@ -7,7 +7,7 @@ use Rattle.step.proofs.answered.Tie as tie
 
 returns : tie.Need-returns
 unfolding stateIn answered
-returns c = (refl, λ mail pci addon. simp (c .line .ensures))
+returns c = (refl, λ mail pci addon. simp (c .line2 .ensures, c .before .line .ensures))
 
 pub answered-spec : {M : Type 1} → statement M
-answered-spec = tie.close (tie.spec (λ c κs. search needs) returns)
+answered-spec = tie.close (tie.spec (λ c κs. search needs) (λ c κs. search needs) returns)

@@ -40,7 +40,7 @@ returns-3 : tie.Need-returns-3
 unfolding stateIn doneReply cycleWord
 returns-3 c = λ mail behind offset enables value.
     let n = c .before in
-    let q = c .before .before .before .before .before .before .before in
+    let q = c .before .before .before .before .before .before .before .before in
     let w = q .before .before in
     let e = w .before .before in
     let g = e .before .before in
@@ -57,7 +57,7 @@ returns-3 c = λ mail behind offset enables value.
     (sym (code .ensures .1 mail here behind) ∙ g .if2 .left)
     refl refl
     (simp (w .shown .ensures, e .low-enables .ensures, e .before .place .ensures))
-    (rw (one-more-in (b .«pci_fill» .0) (n .before .before .before .one-more .result .0) (n .before .before .before .one-more .ensures) some, q .push .ensures (s .pre) some, n .before .before .after-read-cycle .ensures, n .before .count-left .ensures, n .next-address .ensures) (read-cycle-state st offset enables value (w .shown .result)))
+    (rw (one-more-in (b .«pci_fill» .0) (n .before .before .before .before .one-more .result .0) (n .before .before .before .before .one-more .ensures) some, q .push .ensures (s .pre) some, n .before .before .after-read-cycle2 .ensures, n .before .before .before .after-read-cycle .ensures, n .before .count-left .ensures, n .next-address .ensures) (read-cycle-state st offset enables value (w .shown .result)))
     (c .answered2 .ensures .1 mail (q .push .last .0) behind))
 
 pub read-cycle-spec : {M : Type 1} → statement M
@@ -74,6 +74,7 @@ read-cycle-spec =
     (λ c κs. search needs)
     (λ c. search needs)
     shared-slice-read-shown
+    (λ c κs. search needs)
     (λ c κs. search needs)
     (λ c κs. search needs)
     (λ c κs. search needs)

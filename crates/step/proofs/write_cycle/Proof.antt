@@ -47,7 +47,7 @@ returns-3 : tie.Need-returns-3
 unfolding stateIn doneReply cycleWord stored
 returns-3 c = λ mail places offset enables value.
     let n = c .before in
-    let q = n .before .before .before .before in
+    let q = n .before .before .before .before .before in
     let e = q .before .before .before in
     let f = e .before in
     let g = f .before .before in
@@ -64,7 +64,7 @@ returns-3 c = λ mail places offset enables value.
     (sym (code .ensures .1 mail places here) ∙ g .if2 .left)
     refl
     (λ i. record { address = b .«write_address»; value = word i; enables = e .low-enables .ensures i; changed = 0 })
-    (rw (q .past .ensures, n .before .before .before .one-less .ensures, from-pop 8 0 here (b .«addon_head») (b .«addon_fill» .0) some, n .before .before .after-write-cycle .ensures, n .before .count-left .ensures, n .next-address .ensures) (write-cycle-state st offset enables value (f .front .result)))
+    (rw (q .past .ensures, n .before .before .before .before .one-less .ensures, from-pop 8 0 here (b .«addon_head») (b .«addon_fill» .0) some, n .before .before .after-write-cycle2 .ensures, n .before .before .before .after-write-cycle .ensures, n .before .count-left .ensures, n .next-address .ensures) (write-cycle-state st offset enables value (f .front .result)))
     (simp (q .before .merged .ensures, e .low-enables .ensures, word, f .before .place .ensures))
     (c .answered2 .ensures .1 mail places here))
 
@@ -86,6 +86,7 @@ write-cycle-spec =
     (λ c κs. search needs)
     (λ c. search needs)
     slice-write-memory
+    (λ c κs. search needs)
     (λ c κs. search needs)
     (λ c κs. search needs)
     (λ c κs. search needs)
