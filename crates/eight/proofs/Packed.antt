@@ -6,7 +6,7 @@ use mathlib.Core.List.{List, [], _∷_, map}
 use native.Mathlib.Omega.{arith}
 use native.Mathlib.Decide.{ℕ-discrete}
 use lib.Dec.{eqb, ltb}
-use lib.Bits.{bitAnd, and-zero-l, and-zero-r, and-block, and-mask, and-high}
+use lib.Bits.{bitAnd, bitOr, and-zero-l, and-zero-r, and-block, and-mask, and-high, or-zero-l, or-zero-r, or-block, or-lt}
 use lib.ListN.{length, replicate, length-map}
 use borrow.Author.Tests.{ltb-true, eqb-true, eq-eqb, ne-eqb}
 use Rattle.hex.specs.Hex.{hexDigits, placeIn, digitNumber, allDigits, numberFrom}
@@ -195,6 +195,22 @@ pub and-lists : (bs ms : List ℕ) → Each 256 bs → Each 256 ms → bitAnd (p
 and-lists [] ms e f = and-zero-l (packed ms)
 and-lists (b ∷ bs) [] e f = and-zero-r (packed (b ∷ bs))
 and-lists (b ∷ bs) (m ∷ ms) e f = and-block 8 (packed bs) (packed ms) b m (e .0) (f .0) ∙ rw (and-lists bs ms (e .1) (f .1))
+
+abbrev pub ors : List ℕ → List ℕ → List ℕ
+ors [] bs = bs
+ors (a ∷ xs) [] = a ∷ xs
+ors (a ∷ xs) (b ∷ bs) = bitOr a b ∷ ors xs bs
+
+pub or-lists : (xs bs : List ℕ) → Each 256 xs → Each 256 bs → (bitOr (packed xs) (packed bs) ≡ packed (ors xs bs)) × Each 256 (ors xs bs)
+or-lists [] bs e f = (or-zero-l (packed bs), f)
+or-lists (a ∷ xs) [] e f = (or-zero-r (packed (a ∷ xs)), e)
+or-lists (a ∷ xs) (b ∷ bs) e f =
+    let rest = or-lists xs bs (e .1) (f .1) in
+    (or-block 8 (packed xs) (packed bs) a b (e .0) (f .0) ∙ rw (rest .0), (or-lt 8 a b (e .0) (f .0), rest .1))
+
+-- of each byte of two numbers joined the bits of a mask
+pub picked : (xs bs ms : List ℕ) → Each 256 xs → Each 256 bs → Each 256 ms → bitAnd (bitOr (packed xs) (packed bs)) (packed ms) ≡ packed (ands (ors xs bs) ms)
+picked xs bs ms e f g = let o = or-lists xs bs e f in rw (o .0) (and-lists (ors xs bs) ms (o .1) g)
 
 pub all-255 : (x : ℕ) → x < 256 → bitAnd x 255 ≡ x
 all-255 x h = let m : bitAnd x 255 ≡ x % 256 = and-mask x 8 in omega arith

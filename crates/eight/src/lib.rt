@@ -1,10 +1,11 @@
 // Eight digits at a time: as bytes of one number, by sums and masks on all of them at once.
 ghost use mathlib.Core.Path.{_≡_};
 ghost use mathlib.Core.List.{List, [], _∷_};
-ghost use Prim.Native.Nat.{ℕ, _≤_};
+ghost use Prim.Native.Nat.{ℕ, _/_, _%_, _≤_, _<_};
 ghost use lib.ListN.{length};
-ghost use Rattle.hex.specs.Hex.{allDigits};
+ghost use Rattle.hex.specs.Hex.{allDigits, digitOf, digits};
 ghost use Rattle.eight.specs.Packed.{packed, Each, numbersIn, joinedFrom, numberOr};
+ghost use Rattle.eight.specs.Written.{bytesOf, lowestIn, textsAt};
 
 // What is answered for bytes that are not eight digits.
 pub const NONE: u64 = 0x1_0000_0000;
@@ -60,4 +61,46 @@ pub fn number(b0: u8, b1: u8, b2: u8, b3: u8, b4: u8, b5: u8, b6: u8, b7: u8) ->
         return joined(d);
     }
     NONE
+}
+
+// The four bytes of a number, each in 16 bits, the highest lowest: halves change places, then the bytes of each.
+fn bytes_apart(w: u64) -> u64
+    requires { ⌜ w ≤ 0xFFFF_FFFF ⌝ }
+    ensures { λ r. ⌜ r ≡ packed (w / 0x100_0000 ∷ 0 ∷ w / 0x1_0000 % 256 ∷ 0 ∷ w / 0x100 % 256 ∷ 0 ∷ w % 256 ∷ 0 ∷ []) ⌝ }
+{
+    let u = (w >> 16) | ((w & 0xFFFF) << 32);
+    ((u >> 8) | (u << 16)) & 0x00FF_00FF_00FF_00FF
+}
+
+// The numbers of the two digits of each of four bytes, the higher first.
+fn numbers_apart(z: u64) -> u64
+    requires { ⌜ z < 0x100_0000_0000_0000 ⌝ }
+    ensures { λ r. ⌜ (r ≤ 0x0F0F_0F0F_0F0F_0F0F) × ((a b c d : ℕ) → Each 256 (a ∷ b ∷ c ∷ d ∷ []) → z ≡ packed (a ∷ 0 ∷ b ∷ 0 ∷ c ∷ 0 ∷ d ∷ 0 ∷ []) → r ≡ lowestIn (a / 16 ∷ a ∷ b / 16 ∷ b ∷ c / 16 ∷ c ∷ d / 16 ∷ d ∷ [])) ⌝ }
+{
+    ((z >> 4) | (z << 8)) & 0x0F0F_0F0F_0F0F_0F0F
+}
+
+// The digits of eight numbers below 16, each in a byte. With 6 more a number above 9 has bit 4; its digit is 7 further on, since 'A'
+// does not follow '9'.
+fn texts_at(n: u64) -> u64
+    requires { ⌜ n ≤ 0x0F0F_0F0F_0F0F_0F0F ⌝ }
+    ensures { λ r. ⌜ r ≡ textsAt n ⌝ }
+{
+    let letters = ((n + 0x0606_0606_0606_0606) >> 4) & 0x0101_0101_0101_0101;
+    n + 0x3030_3030_3030_3030 + letters * 7
+}
+
+// The lowest eight digits of a number, each in a byte, the highest in the lowest.
+pub fn digits(x: u32) -> u64
+    ensures { λ r. ⌜ bytesOf 8 r ≡ digits 8 x ⌝ }
+{
+    texts_at(numbers_apart(bytes_apart(x as u64)))
+}
+
+// The digit of a number's lowest four bits.
+pub fn digit(n: u32) -> u32
+    ensures { λ r. ⌜ (r ≡ digitOf (n % 16)) × (r < 256) ⌝ }
+{
+    let d = n % 16;
+    d + 0x30 + (d + 6) / 16 * 7
 }

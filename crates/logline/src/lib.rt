@@ -1,9 +1,11 @@
 // The log line of an answer: its numbers in upper-case hexadecimal digits, a space, the label of the code in a language, LF.
 ghost use mathlib.Core.Path.{_≡_};
 ghost use Prim.Native.Nat.{_+_, _≤_};
-ghost use mathlib.Core.List.{[]};
+ghost use mathlib.Core.Bool.{cond};
+ghost use mathlib.Core.List.{[], _++_};
 ghost use lib.ListN.{length, getD};
-ghost use Rattle.hex.specs.Hex.{digits};
+ghost use Rattle.hex.specs.Hex.{bytes, digits};
+ghost use Rattle.eight.specs.Written.{bytesOf};
 ghost use Rattle.logline.specs.Wrote.{Wrote};
 ghost use Rattle.logline.specs.Labels.{english, german, englishSet, isSet, labelOf};
 ghost use Rattle.logline.specs.LogLine.{numbers, unknownSet, lineIn};
@@ -18,6 +20,14 @@ pub const ENGLISH: u32 = 0;
 // How many label sets there are.
 const SETS: u32 = 2;
 
+// The digits of zero, two and eight of them, in bytes.
+const TWO_ZEROS: u64 = 0x3030;
+
+const EIGHT_ZEROS: u64 = 0x3030_3030_3030_3030;
+
+// In four bytes none, two zeros and a space.
+const SPACE_AND_ZEROS: u64 = 0x2030_3000;
+
 // Whether a number is that of a label set.
 pub fn is_set(set: u32) -> bool
     ensures { λ r. ⌜ r ≡ isSet set ⌝ }
@@ -25,19 +35,21 @@ pub fn is_set(set: u32) -> bool
     set < SETS
 }
 
-// Writes the lowest `count` digits of x, the highest first, and answers the place past them.
-fn put_digits(out: &mut [u8], at: usize, count: usize, x: u32) -> usize
+// Writes the lowest `count` bytes of a number, the lowest first, and answers the place past them.
+fn put_bytes(out: &mut [u8], at: usize, count: usize, bytes: u64) -> usize
     requires { ⌜ at + count ≤ length (now out) ⌝ }
-    ensures { λ r. ⌜ (r ≡ at + count) × Wrote (now (out .entry)) at (digits count x) r (now (out .exit)) ⌝ }
+    ensures { λ r. ⌜ (r ≡ at + count) × Wrote (now (out .entry)) at (bytesOf count bytes) r (now (out .exit)) ⌝ }
 {
-    let mut i = count;
-    let mut left = x;
-    while 0 < i {
-        i -= 1;
-        out[at + i] = hex::digit(left);
-        left = left / 16;
+    let mut p = at;
+    let mut n = count;
+    let mut left = bytes;
+    while 0 < n {
+        out[p] = (left % 256) as u8;
+        p += 1;
+        n -= 1;
+        left = left / 256;
     }
-    at + count
+    p
 }
 
 fn put(out: &mut [u8], at: usize, src: &[u8]) -> usize
@@ -138,17 +150,55 @@ fn put_label(out: &mut [u8], at: usize, code: u32, set: u32) -> usize
     }
 }
 
-// Writes the 21 digits of an answer, and answers the place past them.
-fn put_numbers(out: &mut [u8], at: usize, a: Answer) -> usize
-    requires { ⌜ at + 21 ≤ length (now out) ⌝ }
-    ensures { λ r. ⌜ (r ≡ at + 21) × Wrote (now (out .entry)) at (numbers a) r (now (out .exit)) ⌝ }
+fn one_if(on: bool, one: u64) -> u64
+    ensures { λ r. ⌜ (r ≡ cond on one 0) × (r ≤ one) ⌝ }
 {
-    let p1 = put_digits(out, at, 2, a.code);
-    let p2 = put_digits(out, p1, 8, a.address);
-    let p3 = put_digits(out, p2, 8, a.value);
-    let p4 = put_digits(out, p3, 1, a.enables);
-    let p5 = put_digits(out, p4, 1, a.line as u32);
-    put_digits(out, p5, 1, a.addon_line as u32)
+    if on { one } else { 0 }
+}
+
+// The two digits of a code, in the lowest two bytes.
+fn code_digits(code: u32) -> u64
+    ensures { λ r. ⌜ bytesOf 2 r ≡ digits 2 code ⌝ }
+{
+    if code == 0 {
+        return TWO_ZEROS;
+    }
+    eight::digit(code / 16) as u64 + eight::digit(code) as u64 * 0x100
+}
+
+// The digits of the enables and of both lines, and a space, in the lowest four bytes.
+fn last_digits(a: Answer) -> u64
+    ensures { λ r. ⌜ bytesOf 4 r ≡ digits 1 (a .enables) ++ digits 1 (cond (a .line) 1 0) ++ digits 1 (cond (a .«addon_line») 1 0) ++ bytes " " ⌝ }
+{
+    let line = one_if(a.line, 0x100);
+    let addon_line = one_if(a.addon_line, 0x1_0000);
+    eight::digit(a.enables) as u64 + line + addon_line + SPACE_AND_ZEROS
+}
+
+// The eight digits of a number that mostly is zero. (The branch also keeps the compiler from joining two numbers in vectors, whose
+// constants would take more read-only room than a table of digits.)
+fn mostly_zeros(x: u32) -> u64
+    ensures { λ r. ⌜ bytesOf 8 r ≡ digits 8 x ⌝ }
+{
+    if x == 0 {
+        return EIGHT_ZEROS;
+    }
+    eight::digits(x)
+}
+
+// Writes the 21 digits of an answer and a space, and answers the place past them.
+fn put_numbers(out: &mut [u8], at: usize, a: Answer) -> usize
+    requires { ⌜ at + 22 ≤ length (now out) ⌝ }
+    ensures { λ r. ⌜ (r ≡ at + 22) × Wrote (now (out .entry)) at (numbers a ++ bytes " ") r (now (out .exit)) ⌝ }
+{
+    let code = code_digits(a.code);
+    let address = mostly_zeros(a.address);
+    let value = eight::digits(a.value);
+    let last = last_digits(a);
+    let p1 = put_bytes(out, at, 2, code);
+    let p2 = put_bytes(out, p1, 8, address);
+    let p3 = put_bytes(out, p2, 8, value);
+    put_bytes(out, p3, 4, last)
 }
 
 // Writes the log line of an answer at a place, with the label of a set, and answers the place past it. Where there is no room
@@ -164,8 +214,7 @@ pub fn put_line(out: &mut [u8], at: usize, a: Answer, set: u32) -> usize
         return at;
     }
     let p = put_numbers(out, at, a);
-    out[p] = b' ';
-    let end = put_label(out, p + 1, a.code, set);
+    let end = put_label(out, p, a.code, set);
     out[end] = b'\n';
     end + 1
 }

@@ -97,15 +97,16 @@ fn changed(memory: &[u32], base: u32) -> usize {
 }
 
 fn write_number(x: u32) {
+    let d = eight::digits(x);
     let digits = [
-        hex::digit(x / 0x1000_0000),
-        hex::digit(x / 0x100_0000),
-        hex::digit(x / 0x10_0000),
-        hex::digit(x / 0x1_0000),
-        hex::digit(x / 0x1000),
-        hex::digit(x / 0x100),
-        hex::digit(x / 0x10),
-        hex::digit(x),
+        (d % 256) as u8,
+        ((d >> 8) % 256) as u8,
+        ((d >> 16) % 256) as u8,
+        ((d >> 24) % 256) as u8,
+        ((d >> 32) % 256) as u8,
+        ((d >> 40) % 256) as u8,
+        ((d >> 48) % 256) as u8,
+        ((d >> 56) % 256) as u8,
     ];
     io::write_all(STDOUT_FILENO, &digits);
 }

@@ -1,5 +1,5 @@
 use Prim.Native.Nat.{_<_}
-use lib.ListN.{length, length-set}
+use lib.ListN.{length}
 use denote.Ref.{now}
 use native.Mathlib.Omega.{arith}
 use Rattle.logline.specs.LogLine.{logBody, logLine}
@@ -20,7 +20,7 @@ put-label-requires : tie.Need-put-label-requires
 put-label-requires c κs =
     let n = c .before .before .before in
     let e = n .before .before in
-    rw length-set (omega (arith, n .put-numbers .ensures .0, n .put-numbers .kept .0, e .if2 .left, e .before .if1 .left))
+    omega (arith, n .put-numbers .ensures .0, n .put-numbers .kept .0, e .if2 .left, e .before .if1 .left)
 
 -- the label leaves room for the LF
 label-leaves : (c : tie.After-slice-known3) → c .before .before .put-label .result < length (c .before .before .put-label .last .0)
@@ -33,22 +33,20 @@ label-leaves c =
       l .put-label .ensures .next,
       labels-short (e .before .before .before .args .set) (e .before .before .before .args .a .code),
       l .put-label .kept .0,
-      length-set (n .put-numbers .last .0) (n .put-numbers .result) 32,
       n .put-numbers .ensures .0,
       n .put-numbers .kept .0,
       e .if2 .left,
       e .before .if1 .left,
     )
 
-slice-write-out-2 : tie.Need-slice-write-out-2
-slice-write-out-2 c = label-leaves c
+slice-write-out : tie.Need-slice-write-out
+slice-write-out c = label-leaves c
 
 add-result : tie.Need-add-result
 add-result c =
     let l = c .before .before in
     let n = l .before .before .before .before in
-    let e = n .before .before in
-    record { fits = omega (arith, label-leaves c, l .put-label .kept .0, length-set (n .put-numbers .last .0) (n .put-numbers .result) 32, n .put-numbers .kept .0, e .before .before .before .good) }
+    record { fits = omega (arith, label-leaves c, l .put-label .kept .0, n .put-numbers .kept .0, n .before .before .before .before .before .good) }
 
 returns-3 : tie.Need-returns-3
 unfolding logBody logLine
@@ -58,11 +56,11 @@ returns-3 c =
     let e = n .before .before in
     let a = e .before .before .before .args in
     rw (in-room (a .set) (now (a .out)) (a .at) (a .a) (omega (arith, e .if2 .left, e .before .if1 .left)))
-    (wrote-then (wrote-then (wrote-then (n .put-numbers .ensures .1) (wrote-one _ _ 32)) (l .put-label .ensures)) (wrote-one _ (l .put-label .result) 10))
+    (wrote-then (wrote-then (n .put-numbers .ensures .1) (l .put-label .ensures)) (wrote-one _ (l .put-label .result) 10))
 
 same-length : tie.Need-same-length
 same-length c = wrote-length (returns-3 c)
 
 pub put-line-spec : {M : Type 1} → statement M
 put-line-spec =
-    tie.close (tie.spec returns returns-2 (λ c κs. search needs) (λ c. search needs) (λ c. search needs) put-label-requires slice-write-out-2 add-result same-length returns-3)
+    tie.close (tie.spec returns returns-2 (λ c κs. search needs) put-label-requires slice-write-out add-result same-length returns-3)
