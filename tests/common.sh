@@ -3,7 +3,7 @@
 # folder, $work, that goes when the script ends.
 export LC_ALL=C
 # shellcheck disable=SC2034
-profiles=(registers mailboxes fifos transfers aborts unknown broken resets all polls firmware)
+profiles=(registers mailboxes fifos transfers aborts unknown broken resets all polls firmware bursts)
 warnings=(-Wall -Wextra -Wpedantic -Werror)
 work=$(mktemp -d) || exit 2
 trap 'rm -rf "$work"' EXIT

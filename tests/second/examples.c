@@ -169,7 +169,31 @@ static void threshold(void)
         step(ADDON_WRITE, 0x20, 15, i);
     expect(10, step(WRITE_CYCLE, 0, 0, 0).code, FIFO_NOT_READY);
     step(ADDON_WRITE, 0x20, 15, 3);
-    expect(10, step(WRITE_CYCLE, 0, 0, 0).code, DONE);
+    for (uint32_t i = 0; i < 4; i++) {
+        struct answer a = step(WRITE_CYCLE, 0, 0, 0);
+
+        expect(10, a.code, DONE);
+        expect(10, a.data, i);
+    }
+    expect(10, pci_read(0x28), 0);
+}
+
+/* Its like on the other side: room for three doesn't do, room for four
+ * does, and from then on until the FIFO is full. */
+static void room_threshold(void)
+{
+    from_reset();
+    pci_write(0x3C, 0x6000);
+    pci_write(0x30, 64);
+    for (uint32_t i = 0; i < 5; i++)
+        pci_write(0x20, i);
+    expect(10, step(READ_CYCLE, 0, 0, 0).code, FIFO_NOT_READY);
+    step(ADDON_READ, 0x20, 15, 0);
+    for (uint32_t i = 0; i < 4; i++)
+        expect(10, step(READ_CYCLE, 0, 0, 0).code, DONE);
+    expect(10, step(READ_CYCLE, 0, 0, 0).code, FIFO_NOT_READY);
+    step(ADDON_READ, 0x20, 15, 0);
+    expect(10, step(READ_CYCLE, 0, 0, 0).code, FIFO_NOT_READY);
 }
 
 int main(void)
@@ -183,6 +207,7 @@ int main(void)
     edge_of_memory();
     edge_for_the_card();
     threshold();
+    room_threshold();
     printf("examples: %d failures\n", failures);
     return failures == 0 ? 0 : 1;
 }

@@ -787,6 +787,229 @@ static void aborts_move(struct generator *g)
     look_at_transfer(g, write);
 }
 
+/* ---- bursts ---- */
+
+enum {
+    LAST_WORD, LAST_PORT, COUNT_USED, COUNT_ZERO, FOUR_OFF, CYCLES_OFF,
+    NO_MEMORY, OTHER_NO_MEMORY, CLEARED, CLEARED_BY_CARD, CLEARED_EMPTY,
+    AT_RESET, BURST_ENDS
+};
+
+/* The two bits of MCSR that a lane's burst needs: four, and its enable. */
+static uint32_t lane_bits(bool write)
+{
+    return write ? 0x0600 : 0x6000;
+}
+
+/* Words that the lane can move: held, or that there is room for. */
+static uint32_t ready_words(const struct generator *g, bool write)
+{
+    return write ? g->chip.to_pci.fill : FIFO_WORDS - g->chip.to_addon.fill;
+}
+
+/* Brings the lane's FIFO to so many by its ports; on its way it is never
+ * empty, or full, unless n is 0. */
+static void level(struct generator *g, bool write, uint32_t n)
+{
+    while (ready_words(g, write) < n && g->left > 0)
+        (write ? port_write : port_read)(g, false, 15);
+    while (ready_words(g, write) > n && g->left > 0)
+        (write ? port_read : port_write)(g, true, 15);
+}
+
+/* Both lanes in one small part of the memory, so that reads meet what was
+ * written. */
+static uint32_t burst_address(struct generator *g)
+{
+    return 0x1000 + 4 * below(g, 24);
+}
+
+/* Everything that a burst of the lane needs but the words; sometimes the
+ * other lane's bits go off. */
+static void burst_set_up(struct generator *g, bool write)
+{
+    uint32_t other = one_in(g, 4) ? 0 : lane_bits(!write);
+    uint32_t rest = random32(g) & 0x9100;
+
+    pci_write(g, INTCSR, 0x00300000 | (random32(g) & 0x000FDF1F));
+    own_write(g, false, MCSR, one_in(g, 2) ? 2 : 3,
+              lane_bits(write) | other | rest);
+    set_up(g, write, burst_address(g), 33 + below(g, 64));
+}
+
+/* Four or more, and the cycle that earns the right. */
+static void earn(struct generator *g, bool write)
+{
+    level(g, write, one_in(g, 2) ? 4 : 4 + below(g, 5));
+    cycle(g, write);
+}
+
+/* Written ones clear a FIFO: of a lane, by a side. */
+static void clear_lane(struct generator *g, bool write, bool card,
+                       uint32_t enables)
+{
+    own_write(g, card, MCSR, enables,
+              (write != card ? 0x04000000 : 0x02000000)
+              | (g->chip.mcsr & 0xFF00));
+}
+
+/* The other lane's right, if it stands, ends in some way of its own. */
+static void end_other(struct generator *g, bool write)
+{
+    uint32_t off = one_in(g, 2) ? 0x2200 : 0x4400;
+
+    if (one_in(g, 2))
+        pci_write(g, write ? READ_COUNT : WRITE_COUNT, 0);
+    else
+        own_write(g, false, MCSR, 2,
+                  g->chip.mcsr & ~(off & lane_bits(!write)));
+    set_up_inside(g, !write, 64);
+    own_write(g, false, MCSR, 2, g->chip.mcsr | 0x6600);
+}
+
+/* What leaves the lane's right as it is. */
+static void beside_burst(struct generator *g, bool write)
+{
+    uint32_t rest = random32(g) & 0x9100;
+
+    switch (below(g, 10)) {
+    case 0:
+        pci_write(g, write ? WRITE_ADDRESS : READ_ADDRESS,
+                  burst_address(g));
+        break;
+    case 1:
+        pci_write(g, write ? WRITE_COUNT : READ_COUNT, 33 + below(g, 64));
+        break;
+    case 2:
+        clear_lane(g, !write, one_in(g, 2), 8);
+        break;
+    case 3:
+        own_write(g, false, MCSR, one_in(g, 2) ? 2 : 15,
+                  (g->chip.mcsr & 0x6600) | rest);
+        break;
+    case 4:
+        clear_lane(g, write, one_in(g, 2), below(g, 8));
+        break;
+    case 5:
+        end_other(g, write);
+        break;
+    case 6:
+        level(g, write, FIFO_WORDS);
+        break;
+    case 7:
+        earn(g, !write);
+        break;
+    case 8:
+        pci_write(g, INTCSR, random32(g) & 0x003FDF1F);
+        break;
+    default:
+        look_at_transfer(g, write);
+    }
+}
+
+/* A cycle that finds no memory, on a lane that is ready for it. */
+static void miss(struct generator *g, bool write)
+{
+    own_write(g, false, MCSR, 2, g->chip.mcsr | (write ? 0x0400 : 0x4000));
+    set_up(g, write, outside(g), 1 + below(g, 40));
+    if (ready_words(g, write) < 4)
+        level(g, write, 4);
+    cycle(g, write);
+}
+
+static void end_burst(struct generator *g, bool write, uint32_t how)
+{
+    const uint32_t *right = write ? &g->chip.write_right
+                                  : &g->chip.read_right;
+    uint32_t off = lane_bits(write) & (how == FOUR_OFF ? 0x2200 : 0x4400);
+
+    switch (how) {
+    case LAST_WORD:
+        pci_write(g, write ? WRITE_COUNT : READ_COUNT, 64);
+        while (*right && g->left > 0)
+            cycle(g, write);
+        break;
+    case LAST_PORT:
+        level(g, write, 0);
+        break;
+    case COUNT_USED:
+        level(g, write, 2 + below(g, 3));
+        pci_write(g, write ? WRITE_COUNT : READ_COUNT, 1 + below(g, 4));
+        cycle(g, write);
+        break;
+    case COUNT_ZERO:
+        pci_write(g, write ? WRITE_COUNT : READ_COUNT,
+                  one_in(g, 2) ? 0 : random32(g) & 0xFC000000);
+        break;
+    case FOUR_OFF:
+    case CYCLES_OFF:
+        own_write(g, false, MCSR, 2, g->chip.mcsr & ~off);
+        break;
+    case NO_MEMORY:
+        miss(g, write);
+        break;
+    case OTHER_NO_MEMORY:
+        miss(g, !write);
+        break;
+    case CLEARED:
+    case CLEARED_BY_CARD:
+        clear_lane(g, write, how == CLEARED_BY_CARD, 8 + below(g, 8));
+        break;
+    case CLEARED_EMPTY:
+        level(g, write, write ? 1 : FIFO_WORDS);
+        clear_lane(g, write, one_in(g, 2), 8 + below(g, 8));
+        break;
+    default:
+        plain_frame(g, CHIP_RESET);
+    }
+}
+
+/* Mends what the end has left, in the least way, and asks for a cycle with
+ * one to three words: the right is gone, so it is not ready. */
+static void after_burst(struct generator *g, bool write)
+{
+    const uint32_t *count = write ? &g->chip.write_count
+                                  : &g->chip.read_count;
+
+    if (g->chip.intcsr & 0x00300000)
+        frame(g, PCI_WRITE, 0x38, 4, 0x00300000);
+    if ((g->chip.mcsr & lane_bits(write)) != lane_bits(write))
+        own_write(g, false, MCSR, 2, g->chip.mcsr | lane_bits(write));
+    if (*count == 0)
+        pci_write(g, write ? WRITE_COUNT : READ_COUNT, 33 + below(g, 64));
+    pci_write(g, write ? WRITE_ADDRESS : READ_ADDRESS, burst_address(g));
+    level(g, write, 1 + below(g, 3));
+    cycle(g, write);
+    if (one_in(g, 4))
+        look_at_transfer(g, write);
+}
+
+static void bursts_move(struct generator *g)
+{
+    bool write = one_in(g, 2);
+    uint32_t how = (uint32_t)(g->turn++ % BURST_ENDS);
+
+    burst_set_up(g, write);
+    if (one_in(g, 2)) {
+        set_up_inside(g, !write, 64);
+        earn(g, !write);
+    }
+    if (one_in(g, 4)) {
+        level(g, write, 1 + below(g, 3));
+        cycle(g, write);
+    }
+    earn(g, write);
+    for (uint32_t n = below(g, 6); n > 0; n--) {
+        if (one_in(g, 2))
+            beside_burst(g, write);
+        if (!one_in(g, 3) || ready_words(g, write) < 2)
+            level(g, write, 2 + below(g, 3));
+        cycle(g, write);
+    }
+    end_burst(g, write, how);
+    after_burst(g, write);
+}
+
 /* ---- firmware ---- */
 
 /* The driver's side of it: messages, words and cycles, some of them where
@@ -1140,11 +1363,11 @@ static void resets_move(struct generator *g)
 {
     static move *const moves[] = {
         registers_move, mailboxes_move, fifos_move, transfers_move,
-        aborts_move, unknown_move, polls_move, firmware_move
+        aborts_move, unknown_move, polls_move, firmware_move, bursts_move
     };
 
     for (uint32_t n = 1 + below(g, 3); n > 0; n--)
-        moves[below(g, 8)](g);
+        moves[below(g, 9)](g);
     if (one_in(g, 6))
         broken_line(g);
     if (one_in(g, 2))
@@ -1163,9 +1386,9 @@ static void all_move(struct generator *g)
     static move *const moves[] = {
         registers_move, mailboxes_move, polls_move, fifos_move,
         fifos_move, transfers_move, transfers_move, firmware_move,
-        aborts_move, unknown_move, broken_move, resets_move
+        aborts_move, unknown_move, broken_move, resets_move, bursts_move
     };
-    move *chosen = moves[below(g, 12)];
+    move *chosen = moves[below(g, 13)];
     uint64_t stretch = 8 + below(g, 80);
     uint64_t goal = g->left > stretch ? g->left - stretch : 0;
 
@@ -1184,7 +1407,8 @@ static const struct {
     { "aborts", aborts_move }, { "unknown", unknown_move },
     { "broken", broken_move }, { "resets", resets_move },
     { "all", all_move }, { "polls", polls_move },
-    { "firmware", firmware_move }, { "sets", broken_move }
+    { "firmware", firmware_move }, { "bursts", bursts_move },
+    { "sets", broken_move }
 };
 
 enum { PROFILES = sizeof profiles / sizeof profiles[0],

@@ -12,6 +12,8 @@
 #define INTCSR_FLAGS UINT32_C(0x003F0000)   /* cleared by written ones */
 #define INTCSR_ABORT UINT32_C(0x00300000)   /* bits 20 and 21 */
 #define MCSR_KEPT    UINT32_C(0x0000F700)
+#define MCSR_WRITES  UINT32_C(0x00000600)   /* 9 and the enable, 10 */
+#define MCSR_READS   UINT32_C(0x00006000)   /* 13 and the enable, 14 */
 #define AINT_KEPT    UINT32_C(0x0000DF1F)
 #define AINT_FLAGS   UINT32_C(0x002F0000)   /* the same; 20 is not there */
 
@@ -64,6 +66,41 @@ uint32_t model_addon_line(const struct controller *c)
     return (events | a >> 21) & 1;
 }
 
+static bool aborted(const struct controller *c)
+{
+    return (c->intcsr & INTCSR_ABORT) != 0;
+}
+
+/* Whether a right to go on with fewer than four words, or less room, may
+ * stand: none of what ends it holds. */
+
+static bool write_may_go_on(const struct controller *c)
+{
+    return c->to_pci.fill != 0 && c->write_count != 0
+        && (c->mcsr & MCSR_WRITES) == MCSR_WRITES && !aborted(c);
+}
+
+static bool read_may_go_on(const struct controller *c)
+{
+    return c->to_addon.fill != FIFO_WORDS && c->read_count != 0
+        && (c->mcsr & MCSR_READS) == MCSR_READS && !aborted(c);
+}
+
+static bool rights_in_form(const struct controller *c)
+{
+    return (!c->write_right || write_may_go_on(c))
+        && (!c->read_right || read_may_go_on(c));
+}
+
+/* After a step that may have brought an end of either. */
+static void end_rights(struct controller *c)
+{
+    if (c->write_right && !write_may_go_on(c))
+        c->write_right = 0;
+    if (c->read_right && !read_may_go_on(c))
+        c->read_right = 0;
+}
+
 static bool state_in_form(const struct controller *c)
 {
     return c->to_addon.fill <= FIFO_WORDS && c->to_pci.fill <= FIFO_WORDS
@@ -71,7 +108,8 @@ static bool state_in_form(const struct controller *c)
         && ((c->write_count | c->read_count) & ~COUNT_KEPT) == 0
         && (c->intcsr & ~(INTCSR_KEPT | INTCSR_FLAGS)) == 0
         && (c->mcsr & ~MCSR_KEPT) == 0
-        && (c->aint & ~(AINT_KEPT | AINT_FLAGS)) == 0;
+        && (c->aint & ~(AINT_KEPT | AINT_FLAGS)) == 0
+        && ((c->write_right | c->read_right) == 0 || rights_in_form(c));
 }
 
 static bool window_in_form(const struct window *w)
@@ -188,6 +226,18 @@ static void clear_marks(struct controller *c)
     c->marks = 0;
 }
 
+/* The write right goes with the last word. */
+static void clear_to_pci(struct controller *c)
+{
+    c->to_pci.fill = 0;
+}
+
+/* The read right would live on in an empty FIFO. */
+static void clear_to_addon(struct controller *c)
+{
+    c->to_addon.fill = c->read_right = 0;
+}
+
 static void mcsr_write(struct controller *c, uint32_t data, uint32_t mask)
 {
     uint32_t ones = data & mask;
@@ -196,9 +246,9 @@ static void mcsr_write(struct controller *c, uint32_t data, uint32_t mask)
     if (ones & BIT(27))
         clear_marks(c);
     if (ones & BIT(26))
-        c->to_pci.fill = 0;
+        clear_to_pci(c);
     if (ones & BIT(25))
-        c->to_addon.fill = 0;
+        clear_to_addon(c);
 }
 
 /* Bits 26 and 25 stand for the other FIFO each than in MCSR. */
@@ -209,9 +259,9 @@ static void agcsts_write(struct controller *c, uint32_t data, uint32_t mask)
     if (pulses & BIT(27))
         clear_marks(c);
     if (pulses & BIT(26))
-        c->to_addon.fill = 0;
+        clear_to_addon(c);
     if (pulses & BIT(25))
-        c->to_pci.fill = 0;
+        clear_to_pci(c);
 }
 
 /* The status bits of the enabled bytes of a mailbox. */
@@ -241,11 +291,20 @@ static void mail_store(struct controller *c, uint32_t *watching,
     raise_flags(watching, filled);
 }
 
+/* By the driver, who may take the last word of a burst. */
+static uint32_t port_take(struct controller *c)
+{
+    uint32_t front = fifo_take(&c->to_pci);
+
+    end_rights(c);
+    return front;
+}
+
 static uint32_t pci_read(struct controller *c, uint32_t place,
                          uint32_t enables)
 {
     switch (place) {
-    case FIFO_PORT:     return fifo_take(&c->to_pci);
+    case FIFO_PORT:     return port_take(c);
     case WRITE_ADDRESS: return c->write_address;
     case WRITE_COUNT:   return c->write_count;
     case READ_ADDRESS:  return c->read_address;
@@ -376,12 +435,14 @@ static struct answer do_access(struct controller *c, const struct step *s)
         break;
     case PCI_WRITE:
         pci_write(c, place, s->enables, s->data);
+        end_rights(c);
         break;
     case ADDON_READ:
         data = addon_read(c, place, s->enables) & enabled_bits[s->enables];
         break;
     default:
         addon_write(c, place, s->enables, s->data);
+        end_rights(c);
     }
     a = answer_of(c, DONE, data);
     if (place < MAILBOXES)
@@ -395,11 +456,14 @@ static uint32_t word_place(const struct window *w, uint32_t address)
     return (address - w->start) / 4;
 }
 
+/* A right stands only where a word is held, or there is room for one. */
 static bool cycle_ready(const struct controller *c, bool write)
 {
+    uint32_t held = c->to_pci.fill, room = FIFO_WORDS - c->to_addon.fill;
+
     if (write)
-        return c->to_pci.fill >= (c->mcsr & BIT(9) ? 4 : 1);
-    return FIFO_WORDS - c->to_addon.fill >= (c->mcsr & BIT(13) ? 4 : 1);
+        return c->write_right || held >= (c->mcsr & BIT(9) ? 4 : 1);
+    return c->read_right || room >= (c->mcsr & BIT(13) ? 4 : 1);
 }
 
 /* The lowest code of a cycle, from code 9 on. */
@@ -413,13 +477,23 @@ static uint32_t cycle_code(const struct controller *c,
         return TRANSFER_OFF;
     if (count == 0)
         return COUNT_IS_ZERO;
-    if (c->intcsr & INTCSR_ABORT)
+    if (aborted(c))
         return ABORT_STANDS;
     if (!cycle_ready(c, write))
         return FIFO_NOT_READY;
     if (word_place(w, address) >= w->count)
         return NO_MEMORY_THERE;
     return DONE;
+}
+
+/* A done cycle under MCSR 9, or 13, found four or had the right already;
+ * what ends it is looked at after the step. */
+static void earn_right(struct controller *c, bool write)
+{
+    if (write)
+        c->write_right = c->mcsr >> 9 & 1;
+    else
+        c->read_right = c->mcsr >> 13 & 1;
 }
 
 static struct answer do_cycle(struct controller *c, const struct window *w,
@@ -445,6 +519,7 @@ static struct answer do_cycle(struct controller *c, const struct window *w,
         }
         *count -= bytes;
         *address += 4;
+        earn_right(c, write);
         if (*count == 0) {
             c->intcsr |= write ? BIT(18) : BIT(19);
             c->aint |= write ? BIT(18) : BIT(19);
@@ -454,6 +529,7 @@ static struct answer do_cycle(struct controller *c, const struct window *w,
         c->intcsr |= BIT(20);
         c->aint |= BIT(21);
     }
+    end_rights(c);
     a.line = model_line(c);
     a.addon_line = model_addon_line(c);
     return a;

@@ -56,6 +56,8 @@ struct controller {
     uint32_t intcsr;            /* bits held, without the line */
     uint32_t mcsr;              /* bits held, without the status */
     uint32_t aint;              /* bits held, without the Add-On line */
+    uint32_t write_right;       /* 1: a burst of write cycles is under way */
+    uint32_t read_right;        /* the same of read cycles */
 };
 
 /* Lent host memory; words may be null if count is zero. */

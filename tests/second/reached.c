@@ -27,6 +27,18 @@ enum { MARKS, TO_ADDON, TO_PCI, PARTS };
 enum { OUT_OF_FIFO, INTO_FIFO, WAYS };      /* of a cycle: kinds 4 and 5 */
 enum { USED_UP, USED_UP_OFF, WRITTEN_ZERO, ENDS };
 
+/* How the right to a burst can end, and what may happen beside it. */
+enum {
+    LAST_WORD, LAST_PORT, COUNT_USED, COUNT_ZERO, FOUR_OFF, CYCLES_OFF,
+    NO_MEMORY, OTHER_NO_MEMORY, CLEARED_BY_PCI, CLEARED_BY_ADDON,
+    CLEARED_EMPTY, RESET, BURST_ENDS
+};
+enum {
+    ADDRESS_WRITTEN, COUNT_LEFT, FOUR_LEFT, OTHER_CLEARED, CLEAR_SPARED,
+    OTHER_ENDED, OTHER_EDGE, BESIDES
+};
+enum { FOUR = 4 };
+
 /* The start of a line and its whole length. */
 struct line {
     char start[LINE_START];
@@ -47,6 +59,17 @@ struct mail_account {
     uint32_t line[SIDES];       /* of the answer before */
 };
 
+/* The right of one way by its own account. For each end there is also the
+ * right that would stand if that end were none: a cycle that is refused
+ * while it stands was refused for that end. */
+struct burst {
+    bool right, without[BURST_ENDS];
+    uint32_t beside;            /* one bit each, since it was earned */
+    uint64_t earned, earned_by_four;
+    uint64_t used[FOUR], refused[FOUR];     /* by the words, 1 to 3 */
+    uint64_t ended[BURST_ENDS], kept[BESIDES];
+};
+
 struct reached {
     uint32_t set;
     uint64_t lines, broken;
@@ -63,6 +86,8 @@ struct reached {
     uint64_t cleared[SIDES][PARTS];     /* while it held something */
     uint64_t spared[SIDES][PARTS];      /* the same without byte 3 */
     bool addon_abort;                   /* AINT's, by its own account */
+    uint32_t mcsr;                      /* bits 15 to 8 as last written */
+    struct burst burst[WAYS];
     uint64_t cycles_beside_abort, line_pair[4];
     unsigned missed;
 };
@@ -98,6 +123,20 @@ static const char *const end_name[ENDS] = {
     "used up by a cycle, the line rose",
     "used up by a cycle with the enable off, no rise",
     "written zero, no rise"
+};
+
+static const char *const burst_end_name[BURST_ENDS] = {
+    "a cycle that left it no word, or no room", "the same by a port",
+    "the count used up", "the count written zero", "MCSR 9, or 13, off",
+    "its enable off", "no memory", "no memory for the other way",
+    "its FIFO cleared by MCSR", "its FIFO cleared by AGCSTS",
+    "its FIFO cleared while empty", "a reset"
+};
+
+static const char *const beside_name[BESIDES] = {
+    "its address written", "a count written and left", "MCSR written with "
+    "both bits", "the other FIFO cleared", "a clear without byte 3",
+    "the other right ended", "its FIFO full, or empty, the other way"
 };
 
 static const char *const part_name[PARTS] = {
@@ -360,6 +399,189 @@ static void note_ends(struct reached *r, const struct step *s,
     }
 }
 
+/* ---- bursts ---- */
+
+static int part_of(int way)
+{
+    return way == OUT_OF_FIFO ? TO_PCI : TO_ADDON;
+}
+
+static uint32_t fill_of(const struct reached *r, int way)
+{
+    return way == OUT_OF_FIFO ? r->to_pci.fill : r->to_addon.fill;
+}
+
+/* The words that a cycle of this way could move one after the other. */
+static uint32_t words_of(int way, uint32_t fill)
+{
+    return way == OUT_OF_FIFO ? fill : FIFO_WORDS - fill;
+}
+
+static bool needs_four(const struct reached *r, int way)
+{
+    return r->mcsr >> (way == OUT_OF_FIFO ? 9 : 13) & 1;
+}
+
+/* MCSR 9 and 10, or 13 and 14. */
+static uint32_t lane_bits(int way)
+{
+    return way == OUT_OF_FIFO ? 0x0600 : 0x6000;
+}
+
+static bool writes_mcsr(const struct step *s)
+{
+    return writes(s, MCSR) && side_of(s) == PCI;
+}
+
+/* Bits 15 to 8 of MCSR that a done step leaves. */
+static uint32_t mcsr_after(const struct step *s, uint32_t bits)
+{
+    if (s->kind == CHIP_RESET)
+        return 0;
+    return writes_mcsr(s) && s->enables & 2 ? s->data & 0xFF00 : bits;
+}
+
+/* The fill of one way's FIFO that a done step leaves. */
+static uint32_t fill_after(const struct step *s, int way, uint32_t fill)
+{
+    uint32_t put = way == OUT_OF_FIFO ? ADDON_WRITE : PCI_WRITE;
+    uint32_t take = way == OUT_OF_FIFO ? PCI_READ : ADDON_READ;
+    bool port = s->kind <= ADDON_WRITE && s->offset == 4 * FIFO_PORT;
+
+    if (s->kind == CHIP_RESET || clears(s, part_of(way)))
+        return 0;
+    if (s->kind == WRITE_CYCLE + (uint32_t)way)
+        return way == OUT_OF_FIFO ? fill - 1 : fill + 1;
+    return port && s->kind == put ? fill + 1
+         : port && s->kind == take ? fill - 1 : fill;
+}
+
+static uint32_t bit_if(bool is, int number)
+{
+    return is ? UINT32_C(1) << number : 0;
+}
+
+/* Which ends of a way's right a step is, one bit each: of done steps, and
+ * of those that find no memory. */
+static uint32_t ends_of(const struct reached *r, const struct step *s,
+                        const struct answer *a, int way)
+{
+    uint32_t fill = fill_of(r, way), after = fill_after(s, way, fill);
+    uint32_t off = r->mcsr & ~mcsr_after(s, r->mcsr) & lane_bits(way);
+    bool own = s->kind == WRITE_CYCLE + (uint32_t)way;
+    bool out = r->count[way] != 0 && count_after(s, way, r->count[way]) == 0;
+
+    if (a->code == NO_MEMORY_THERE)
+        return bit_if(true, own ? NO_MEMORY : OTHER_NO_MEMORY);
+    if (s->kind == CHIP_RESET)
+        return bit_if(true, RESET);
+    if (clears(s, part_of(way)))
+        return bit_if(fill == 0, CLEARED_EMPTY)
+             | bit_if(fill != 0 && side_of(s) == PCI, CLEARED_BY_PCI)
+             | bit_if(fill != 0 && side_of(s) == ADDON, CLEARED_BY_ADDON)
+             | bit_if(off & 0x2200, FOUR_OFF)
+             | bit_if(off & 0x4400, CYCLES_OFF);
+    return bit_if(words_of(way, after) == 0 && after != fill,
+                  own ? LAST_WORD : LAST_PORT)
+         | bit_if(out, own ? COUNT_USED : COUNT_ZERO)
+         | bit_if(off & 0x2200, FOUR_OFF)
+         | bit_if(off & 0x4400, CYCLES_OFF);
+}
+
+/* What of the other things a done step is to a way, one bit each. */
+static uint32_t besides_of(const struct reached *r, const struct step *s,
+                           int way)
+{
+    uint32_t address = way == OUT_OF_FIFO ? WRITE_ADDRESS : READ_ADDRESS;
+    uint32_t count = way == OUT_OF_FIFO ? WRITE_COUNT : READ_COUNT;
+    uint32_t fill = fill_of(r, way), after = fill_after(s, way, fill);
+    bool on_pci = s->kind == PCI_WRITE && s->enables != 0;
+    bool spared = says_clear(s, part_of(way)) && !(s->enables & 8);
+    bool edge = words_of(way, after) == FIFO_WORDS && after != fill;
+
+    return bit_if(on_pci && s->offset == 4 * address, ADDRESS_WRITTEN)
+         | bit_if(on_pci && s->offset == 4 * count, COUNT_LEFT)
+         | bit_if(writes_mcsr(s) && s->enables & 2, FOUR_LEFT)
+         | bit_if(clears(s, part_of(1 - way)), OTHER_CLEARED)
+         | bit_if(spared, CLEAR_SPARED) | bit_if(edge, OTHER_EDGE);
+}
+
+/* Whether a cycle of this way is ready, by the accounts. */
+static bool is_ready(const struct reached *r, int way)
+{
+    uint32_t words = words_of(way, fill_of(r, way));
+
+    return words >= (needs_four(r, way) && !r->burst[way].right ? FOUR : 1);
+}
+
+/* Notes a cycle before the accounts take it up; false if code 12 is given
+ * where the cycle is ready, or not given where it is not. */
+static bool note_cycle(struct reached *r, const struct answer *a, int way)
+{
+    struct burst *b = &r->burst[way];
+    uint32_t words = words_of(way, fill_of(r, way));
+
+    if (a->code == FIFO_NOT_READY && words > 0 && words < FOUR) {
+        b->refused[words]++;
+        for (int i = 0; i < BURST_ENDS; i++)
+            b->ended[i] += b->without[i];
+    }
+    if (a->code == DONE && needs_four(r, way) && words < FOUR) {
+        b->used[words]++;
+        for (int i = 0; i < BESIDES; i++)
+            b->kept[i] += b->beside >> i & 1;
+    }
+    if (a->code < FIFO_NOT_READY && a->code != DONE)
+        return true;
+    return is_ready(r, way) == (a->code != FIFO_NOT_READY);
+}
+
+/* The right of one way after a step that was done or found no memory; true
+ * if it has ended. */
+static bool keep_right(struct reached *r, const struct step *s,
+                       const struct answer *a, int way)
+{
+    struct burst *b = &r->burst[way];
+    uint32_t ends = ends_of(r, s, a, way);
+    bool cycle = a->code == DONE && s->kind == WRITE_CYCLE + (uint32_t)way;
+    bool earns = cycle && needs_four(r, way)
+              && words_of(way, fill_of(r, way)) >= FOUR;
+    bool before = b->right;
+
+    if (earns && !b->right) {
+        b->earned++;
+        b->earned_by_four += words_of(way, fill_of(r, way)) == FOUR;
+        b->beside = 0;
+    }
+    b->right = (b->right || earns) && ends == 0;
+    for (int i = 0; i < BURST_ENDS; i++)
+        b->without[i] = (b->without[i] || earns)
+                     && (ends & ~bit_if(true, i)) == 0;
+    if (a->code == DONE && b->right)
+        b->beside |= besides_of(r, s, way);
+    return before && !b->right;
+}
+
+/* Keeps both rights; false if a cycle's readiness is not the accounts'. */
+static bool note_bursts(struct reached *r, const struct step *s,
+                        const struct answer *a)
+{
+    bool fits = true, ended[WAYS];
+
+    if (s->kind == WRITE_CYCLE || s->kind == READ_CYCLE)
+        fits = note_cycle(r, a, (int)(s->kind - WRITE_CYCLE));
+    if (a->code != DONE && a->code != NO_MEMORY_THERE)
+        return fits;
+    for (int way = 0; way < WAYS; way++)
+        ended[way] = keep_right(r, s, a, way);
+    for (int way = 0; way < WAYS; way++)
+        if (ended[1 - way] && r->burst[way].right)
+            r->burst[way].beside |= bit_if(true, OTHER_ENDED);
+    if (a->code == DONE)
+        r->mcsr = mcsr_after(s, r->mcsr);
+    return fits;
+}
+
 /* Whether the step is the access that a side waits for in a half: the
  * driver for the card's, the card for the driver's. */
 static bool waited_for(const struct step *s, int side, int half)
@@ -544,6 +766,8 @@ static bool measure(struct reached *r, const struct line *frame,
     r->pair[kind][a.code]++;
     if (s.kind <= ADDON_WRITE)
         note_access(r, &s, &a);
+    if (!note_bursts(r, &s, &a))
+        return false;
     if (a.code == DONE) {
         note_clears(r, &s);
         note_ends(r, &s, &a);
@@ -648,6 +872,26 @@ static void print_clears(const struct reached *r)
            r->cycles_beside_abort);
     for (int i = 0; i < 4; i++)
         printf("%s %" PRIu64 "\n", lines_name[i], r->line_pair[i]);
+}
+
+static void print_bursts(const struct reached *r)
+{
+    puts("bursts of each way");
+    for (int way = 0; way < WAYS; way++) {
+        const struct burst *b = &r->burst[way];
+
+        printf("  %s: earned %" PRIu64 ", with exactly four %" PRIu64 "\n",
+               way_name[way], b->earned, b->earned_by_four);
+        for (int i = 1; i < FOUR; i++)
+            printf("  %s with %d: by the right %" PRIu64 ", refused %" PRIu64
+                   "\n", way_name[way], i, b->used[i], b->refused[i]);
+        for (int i = 0; i < BURST_ENDS; i++)
+            printf("  %s refused after %s %" PRIu64 "\n", way_name[way],
+                   burst_end_name[i], b->ended[i]);
+        for (int i = 0; i < BESIDES; i++)
+            printf("  %s goes on after %s %" PRIu64 "\n", way_name[way],
+                   beside_name[i], b->kept[i]);
+    }
 }
 
 static void print_rest(const struct reached *r)
@@ -766,6 +1010,26 @@ static void need_clears(struct reached *r)
         need(r, r->line_pair[i], lines_name[i], "up, number", i);
 }
 
+/* The write right never stands over an empty FIFO, so no clear of one can
+ * end it. */
+static void need_bursts(struct reached *r)
+{
+    for (int way = 0; way < WAYS; way++) {
+        const struct burst *b = &r->burst[way];
+
+        need(r, b->earned_by_four, way_name[way], "right earned with", FOUR);
+        for (int i = 1; i < FOUR; i++) {
+            need(r, b->used[i], way_name[way], "right used with", i);
+            need(r, b->refused[i], way_name[way], "cycle refused with", i);
+        }
+        for (int i = 0; i < BURST_ENDS; i++)
+            if (way != OUT_OF_FIFO || i != CLEARED_EMPTY)
+                need(r, b->ended[i], way_name[way], burst_end_name[i], i);
+        for (int i = 0; i < BESIDES; i++)
+            need(r, b->kept[i], way_name[way], beside_name[i], i);
+    }
+}
+
 static void need_rest(struct reached *r)
 {
     need(r, r->to_addon.full, "PCI-to-Add-On FIFO", "fill", 8);
@@ -815,6 +1079,7 @@ int main(int argc, char **argv)
     print_ends(&r);
     print_bits(&r);
     print_clears(&r);
+    print_bursts(&r);
     print_rest(&r);
     need_pairs(&r);
     need_registers(&r);
@@ -822,6 +1087,7 @@ int main(int argc, char **argv)
     need_ends(&r);
     need_bits(&r);
     need_clears(&r);
+    need_bursts(&r);
     need_rest(&r);
     puts(r.missed == 0 ? "reached: all" : "");
     return r.missed == 0 ? 0 : 1;

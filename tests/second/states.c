@@ -69,7 +69,8 @@ static uint32_t *register_named(struct controller *c, const char *key)
         { "waddr", &c->write_address }, { "wcount", &c->write_count },
         { "raddr", &c->read_address }, { "rcount", &c->read_count },
         { "intcsr", &c->intcsr }, { "mcsr", &c->mcsr },
-        { "aint", &c->aint }
+        { "aint", &c->aint },
+        { "wright", &c->write_right }, { "rright", &c->read_right }
     };
 
     for (size_t i = 0; i < sizeof table / sizeof table[0]; i++)
@@ -171,7 +172,8 @@ static bool same_state(const struct controller *a,
         && a->read_address == b->read_address
         && a->read_count == b->read_count
         && a->intcsr == b->intcsr && a->mcsr == b->mcsr
-        && a->aint == b->aint;
+        && a->aint == b->aint && a->write_right == b->write_right
+        && a->read_right == b->read_right;
 }
 
 static bool memory_as_written(const struct test_case *t)

@@ -23,6 +23,8 @@ pub struct Bank {
     pub write_count: ByteCount,
     pub addon_head: u32,
     pub addon_fill: WordFill,
+    pub read_right: bool,
+    pub write_right: bool,
 }
 
 // The numbers of a controller, and its three runs of words: the mailbox words, the places of the FIFO from PCI and of the FIFO from the Add-On.
@@ -44,10 +46,12 @@ pub fn bank_of(c: Controller) -> Bank
         aint: c.aint,
         read_address: from_pci.address,
         read_count,
+        read_right: from_pci.right,
         pci_head: pci.head,
         pci_fill,
         write_address: from_addon.address,
         write_count,
+        write_right: from_addon.right,
         addon_head: addon.head,
         addon_fill,
     }
@@ -103,11 +107,13 @@ pub fn controller_of(b: Bank, mail: [u32; 8], pci: [u32; 8], addon: [u32; 8]) ->
         fifo: pci_fifo,
         address: b.read_address,
         count: read_count,
+        right: b.read_right,
     };
     let from_addon = Lane {
         fifo: addon_fifo,
         address: b.write_address,
         count: write_count,
+        right: b.write_right,
     };
     Controller {
         mail,

@@ -5,7 +5,7 @@ use Rattle.controller.specs.declared.Lane as code
 use Rattle.controller.specs.declared.Controller.{Controller}
 
 unfoldable pub laneOf : code.Lane → Lane
-laneOf l = record { words = held (l .fifo); address = l .address; count = l .count .0 }
+laneOf l = record { words = held (l .fifo); address = l .address; count = l .count .0; right = l .right }
 
 unfoldable pub stateOf : Controller → State
 stateOf c =

@@ -7,11 +7,12 @@ use fifo::Fifo;
 // A transfer count, in bytes.
 pub struct ByteCount(pub u32);
 
-// A FIFO, and the address and count registers of the cycles that work on it.
+// A FIFO, the address and count registers of the cycles that work on it, and whether these have the right of a burst.
 pub struct Lane {
     pub fifo: Fifo,
     pub address: u32,
     pub count: ByteCount,
+    pub right: bool,
 }
 
 // mail has the mailbox words by their offset / 4; marks has a one for each full byte.
@@ -34,6 +35,7 @@ fn reset_lane() -> Lane
         fifo,
         address: 0,
         count: ByteCount(0),
+        right: false,
     }
 }
 

@@ -30,8 +30,8 @@ at-least-one false = omega arith
 pub room-to-read : (side : Side) (st : State) (x : Access) → isNotReady st x ≡ false → cycleFeeds side x ≡ true → length (held side st) < 8
 unfolding isNotReady isReady
 room-to-read pci st x e c =
-    let room = leb-true (needed pci (st .mcsr)) (amount pci (held pci st)) (not-false _ (and-at (cycles pci (x .kind)) _ c (neither (λ s. cycles s (x .kind) && not (isReady s st)) e pci))) in
-    omega (arith, at-least-one (bit (st .mcsr) 13))
+    let room = leb-true (needed pci (st .mcsr) (st .fromPci .right)) (amount pci (held pci st)) (not-false _ (and-at (cycles pci (x .kind)) _ c (neither (λ s. cycles s (x .kind) && not (isReady s st)) e pci))) in
+    omega (arith, at-least-one (bit (st .mcsr) 13 && not (st .fromPci .right)))
 room-to-read addon st x e c = absurd (true≢false (sym c))
 
 -- code 13: a done cycle's place is in the memory

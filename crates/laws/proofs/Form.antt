@@ -1,16 +1,16 @@
 -- A step leaves a state in form in form.
 use Prim.Native.Nat.{ℕ, zero, suc, _*_, _/_, _%_, _^_, _≤_, _<_}
 use mathlib.Core.Path.{_≡_, refl, ap, _∙_}
-use mathlib.Core.Bool.{Bool, true, false, cond, not}
+use mathlib.Core.Bool.{Bool, true, false, cond, not, _&&_}
 use mathlib.Core.List.{List, [], _∷_}
 use native.Mathlib.Omega.{arith}
 use lib.Dec.{eqb, ltb, eqb·suc-zero}
 use lib.Bits.{bitAnd, and-high, and-le-r}
 use lib.ListN.{length, drop, length-append, length-drop}
 use borrow.Author.Tests.{ltb-false, le-ltb, eqb-true, eq-eqb, not-false}
-use Rattle.machine.specs.Words.{bit, only, raised, cleared, merged, written}
+use Rattle.machine.specs.Words.{bit, anyOf, only, raised, cleared, merged, written}
 use Rattle.machine.specs.Sides.{Side, pci, addon, other, sameSide, sideOf}
-use Rattle.machine.specs.State.{State, lane, held, resetState}
+use Rattle.machine.specs.State.{State, Lane, lane, held, resetState}
 use Rattle.machine.specs.Access.{Access, accessOf, Kind, reading, writing, cycle, chipReset, unknown, isReset, cycles, writes}
 use Rattle.machine.specs.Offsets.{fifoPort, addressAt, countAt, interruptsAt, controlAt}
 use Rattle.machine.specs.Commands.{clearsFifo}
@@ -19,8 +19,9 @@ use Rattle.machine.specs.Mailboxes.{changes}
 use Rattle.machine.specs.Mcsr.{mcsrKept, mcsrAfter}
 use Rattle.machine.specs.Cycles.{addressKept, countKept, nextAddress, countLeft, runsOut, addressAfter, countAfter, laneAfter}
 use Rattle.machine.specs.Interrupts.{interrupts, interruptsKept, flags, interruptsHeld, interruptsWritten, outgoingEvent, incomingEvent, notified, countBit, interruptsAfter, interruptsAborted}
-use Rattle.machine.specs.Code.{codeOf, tests, faults, laneFaults, anyOf, isOutOfForm, isFullOrEmpty, isNotReady}
-use Rattle.machine.specs.Step.{doneState, abortedState, stateAfter, stepOf, respond, replyOf}
+use Rattle.machine.specs.Rights.{ended, settledLane, settled, rightless}
+use Rattle.machine.specs.Code.{codeOf, tests, faults, laneFaults, isOutOfForm, isFullOrEmpty, isNotReady}
+use Rattle.machine.specs.Step.{movedState, doneState, abortedState, stateAfter, stepOf, respond, replyOf}
 use Rattle.machine.specs.declared.Step.{Step}
 use Rattle.laws.proofs.Tests.{none-applies, any-none}
 use Rattle.laws.proofs.Done.{room-to-write, room-to-read}
@@ -67,24 +68,33 @@ count-form true c old new e h = le-ltb 0x03FF_FFFF _ (count-written old new e)
 count-form false true old new e h = let z = ltb-false 0x03FF_FFFF old h in le-ltb 0x03FF_FFFF (countLeft old) (omega arith)
 count-form false false old new e h = h
 
-lane-done : (side : Side) (st : State) (x : Access) (word : ℕ) → lane side (doneState st x word) ≡ laneAfter side x word (lane side st)
-unfolding doneState
-lane-done pci st x word = refl
-lane-done addon st x word = refl
+-- no right is left together with an end of it
+right-form : (right end : Bool) → (right && not end && end) ≡ false
+right-form true true = refl
+right-form true false = refl
+right-form false true = refl
+right-form false false = refl
 
-lane-form : (side : Side) (st : State) (x : Access) (word : ℕ) → isFullOrEmpty st x ≡ false → isNotReady st x ≡ false → anyOf (laneFaults (lane side st)) ≡ false
-    → anyOf (laneFaults (lane side (doneState st x word))) ≡ false
+lane-form : (side : Side) (st : State) (x : Access) (word m i : ℕ) → isFullOrEmpty st x ≡ false → isNotReady st x ≡ false
+    → anyOf (laneFaults side (lane side st) (st .mcsr) (st .intcsr)) ≡ false
+    → (let l = laneAfter side x (st .mcsr) word (lane side st) in anyOf (laneFaults side (settledLane side l m i) m i)) ≡ false
 unfolding addressAfter countAfter
-lane-form side st x word e f h =
-    let was = any-none (laneFaults (lane side st)) h in
+lane-form side st x word m n e f h =
+    let was = any-none (laneFaults side (lane side st) (st .mcsr) (st .intcsr)) h in
     let l = lane side st in
-    (λ i. anyOf (laneFaults (lane-done side st x word i)))
-    ∙ (λ i.
+    let next = laneAfter side x (st .mcsr) word l in
+    λ i.
     anyOf
     (fifo-form side st x word e f (was 0) i
     ∷ address-form (writes pci (addressAt side) x) (cycles side (x .kind)) (l .address) (x .value) (x .enables) (was 1) i
     ∷ count-form (writes pci (countAt side) x) (cycles side (x .kind)) (l .count) (x .value) (x .enables) (was 2) i
-    ∷ []))
+    ∷ right-form (next .right) (ended side next m n) i
+    ∷ [])
+
+aborted-lane : (side : Side) (l : Lane) (m i n : ℕ) → anyOf (laneFaults side l m i) ≡ false → anyOf (laneFaults side (rightless l) m n) ≡ false
+aborted-lane side l m j n h =
+    let was = any-none (laneFaults side l m j) h in
+    λ i. anyOf (was 0 i ∷ was 1 i ∷ was 2 i ∷ false ∷ [])
 
 -- ---- INTCSR and MCSR hold no other bit
 
@@ -133,14 +143,14 @@ held-form y p q h f = ap not (only-is y q (f (is-only y p (not-false (only y p) 
 -- ---- a step
 
 done-form : (st : State) (start words : ℕ) (x : Access) (word : ℕ) → codeOf st start words x ≡ 0 → isOutOfForm (doneState st x word) ≡ false
-unfolding codeOf doneState isOutOfForm
+unfolding codeOf movedState settled doneState isOutOfForm
 done-form st start words x word e =
     let none = none-applies (tests st start words x) refl e in
     let was = any-none (faults st) (none 1) in
     λ i.
     anyOf
-    (lane-form pci st x word (none 8) (none 12) (was 0) i
-    ∷ lane-form addon st x word (none 8) (none 12) (was 1) i
+    (lane-form pci st x word (mcsrAfter x (st .mcsr)) (interruptsAfter pci (x .kind) st x) (none 8) (none 12) (was 0) i
+    ∷ lane-form addon st x word (mcsrAfter x (st .mcsr)) (interruptsAfter pci (x .kind) st x) (none 8) (none 12) (was 1) i
     ∷ held-form (interruptsHeld pci) (st .intcsr) (interruptsAfter pci (x .kind) st x) (was 2) (interrupts-only pci (x .kind) st x) i
     ∷ held-form mcsrKept (st .mcsr) (mcsrAfter x (st .mcsr)) (was 3) (mcsr-only st x) i
     ∷ held-form (interruptsHeld addon) (st .aint) (interruptsAfter addon (x .kind) st x) (was 4) (interrupts-only addon (x .kind) st x) i
@@ -160,8 +170,8 @@ aborted-form st e =
     let was = any-none (faults st) e in
     λ i.
     anyOf
-    (was 0 i
-    ∷ was 1 i
+    (aborted-lane pci (st .fromPci) (st .mcsr) (st .intcsr) (raised (st .intcsr) true 20) (was 0) i
+    ∷ aborted-lane addon (st .fromAddon) (st .mcsr) (st .intcsr) (raised (st .intcsr) true 20) (was 1) i
     ∷ held-form (interruptsHeld pci) (st .intcsr) (raised (st .intcsr) true 20) (was 2) (λ h. only-raised (interruptsHeld pci) (st .intcsr) 20 true h refl) i
     ∷ was 3 i
     ∷ held-form (interruptsHeld addon) (st .aint) (raised (st .aint) true 21) (was 4) (λ h. only-raised (interruptsHeld addon) (st .aint) 21 true h refl) i

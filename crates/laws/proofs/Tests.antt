@@ -7,7 +7,8 @@ use lib.Dec.{eqb}
 use lib.ListN.{getD}
 use borrow.Author.Tests.{eq-eqb}
 use Rattle.machine.specs.Sides.{Side, pci, addon, either}
-use Rattle.machine.specs.Code.{firstOf, testOf, anyOf}
+use Rattle.machine.specs.Words.{anyOf}
+use Rattle.machine.specs.Code.{firstOf, testOf}
 
 pub or-left : (a b : Bool) → (a || b) ≡ false → a ≡ false
 or-left true b e = e

@@ -4,7 +4,7 @@ use mathlib.Core.Bool.{Bool, false, cond, not, _&&_, _||_}
 use mathlib.Core.List.{List, [], _∷_, _++_}
 use lib.Dec.{eqb, ltb}
 use lib.ListN.{length}
-use Rattle.machine.specs.Words.{bit, only}
+use Rattle.machine.specs.Words.{bit, anyOf, only}
 use Rattle.machine.specs.Sides.{Side, pci, addon, other, either}
 use Rattle.machine.specs.State.{State, Lane, lane, held}
 use Rattle.machine.specs.Access.{Access, isAccess, isRead, isWrite, isUnknown, cycles, reads, writes}
@@ -14,20 +14,18 @@ use Rattle.machine.specs.Window.{inside, isWindowOutOfForm}
 use Rattle.machine.specs.Mcsr.{mcsrKept, enableBit}
 use Rattle.machine.specs.Cycles.{isReady}
 use Rattle.machine.specs.Interrupts.{interruptsHeld, abortIn}
+use Rattle.machine.specs.Rights.{ended}
 use Rattle.machine.specs.Codes.{done, stateOutOfForm, windowOutOfForm, unknownStep, unknownOffset, badEnables, partFifoAccess, readOnlyRegister, fifoFullOrEmpty, transferOff, countIsZero, abortStands, fifoNotReady, noMemoryThere}
 
-abbrev pub anyOf : List Bool → Bool
-anyOf [] = false
-anyOf (b ∷ bs) = b || anyOf bs
-
--- 1, of a lane: more words than fit in, an address that is no multiple of 4, a count of more than 26 bits
-abbrev pub laneFaults : Lane → List Bool
-laneFaults l = ltb depth (length (l .words)) ∷ not (eqb (l .address % 4) 0) ∷ ltb 0x03FF_FFFF (l .count) ∷ []
+-- 1, of a lane: more words than fit in, an address that is no multiple of 4, a count of more than 26 bits, a right together with one of its ends (Ask 5)
+abbrev pub laneFaults : Side → Lane → ℕ → ℕ → List Bool
+laneFaults side l mcsr intcsr =
+    ltb depth (length (l .words)) ∷ not (eqb (l .address % 4) 0) ∷ ltb 0x03FF_FFFF (l .count) ∷ (l .right && ended side l mcsr intcsr) ∷ []
 
 -- 1, of all: either lane, a bit in INTCSR that is neither kept nor a flag, a bit in MCSR that is not kept, a bit in AINT that is neither kept nor a flag
 abbrev pub faults : State → List Bool
 faults st =
-    anyOf (laneFaults (st .fromPci)) ∷ anyOf (laneFaults (st .fromAddon)) ∷ not (only (interruptsHeld pci) (st .intcsr)) ∷ not (only mcsrKept (st .mcsr))
+    anyOf (laneFaults pci (st .fromPci) (st .mcsr) (st .intcsr)) ∷ anyOf (laneFaults addon (st .fromAddon) (st .mcsr) (st .intcsr)) ∷ not (only (interruptsHeld pci) (st .intcsr)) ∷ not (only mcsrKept (st .mcsr))
     ∷ not (only (interruptsHeld addon) (st .aint)) ∷ []
 
 unfoldable pub isOutOfForm : State → Bool

@@ -1,6 +1,6 @@
 -- FIFOs and memory cycles: the address and count registers, and what a memory cycle moves.
 use Prim.Native.Nat.{ℕ, _+_, _-_, _%_, _^_, min}
-use mathlib.Core.Bool.{Bool, cond}
+use mathlib.Core.Bool.{Bool, true, false, cond, not, _&&_}
 use mathlib.Core.List.{List}
 use lib.Dec.{eqb, leb}
 use lib.ListN.{getD, set}
@@ -9,6 +9,7 @@ use Rattle.machine.specs.Sides.{Side, pci, addon}
 use Rattle.machine.specs.State.{State, Lane, lane, held}
 use Rattle.machine.specs.Offsets.{addressAt, countAt}
 use Rattle.machine.specs.Access.{Access, writes, cycles}
+use Rattle.machine.specs.Commands.{clearsFifo}
 use Rattle.machine.specs.Fifos.{front, amount, fifoAfter}
 use Rattle.machine.specs.Window.{placeOf}
 use Rattle.machine.specs.Mcsr.{fourBit}
@@ -21,12 +22,12 @@ moved count = min 4 count
 unfoldable pub lowEnables : ℕ → ℕ
 lowEnables count = 2 ^ moved count - 1
 
--- a cycle is ready with one word (held, or room for it), or four where MCSR asks for four
-abbrev pub needed : Side → ℕ → ℕ
-needed side mcsr = cond (bit mcsr (fourBit side)) 4 1
+-- a cycle is ready with one word (held, or room for it), or four where MCSR asks for four and it has no right (Ask 5)
+abbrev pub needed : Side → ℕ → Bool → ℕ
+needed side mcsr right = cond (bit mcsr (fourBit side) && not right) 4 1
 
 unfoldable pub isReady : Side → State → Bool
-isReady side st = leb (needed side (st .mcsr)) (amount side (held side st))
+isReady side st = let l = lane side st in leb (needed side (st .mcsr) (l .right)) (amount side (l .words))
 
 -- The word that a cycle answers: a write cycle the whole front word that it takes,
 -- a read cycle the memory word that it lets in, of which only the lowest n bytes are taken, zero above them (house).
@@ -70,11 +71,20 @@ countAfter side x old =
     cond (writes pci (countAt side) x) (written countKept old (x .value) (x .enables))
     (cond (cycles side (x .kind)) (countLeft old) old)
 
--- a lane after a done step that is no reset and whose answer shows a word
-abbrev pub laneAfter : Side → Access → ℕ → Lane → Lane
-laneAfter side x answered l =
+-- Ask 5: a done cycle earns the right if MCSR asks for four and there were four before it
+abbrev pub earns : Side → Access → ℕ → List ℕ → Bool
+earns side x mcsr words = cycles side (x .kind) && bit mcsr (fourBit side) && leb 4 (amount side words)
+
+-- the right before its other ends are looked at: none at the FIFO's clear, else earned now or had before
+unfoldable pub rightAfter : Side → Access → ℕ → Lane → Bool
+rightAfter side x mcsr l = cond (clearsFifo side x) false (cond (earns side x mcsr (l .words)) true (l .right))
+
+-- a lane after a done step that is no reset and whose answer shows a word; MCSR as it was before
+abbrev pub laneAfter : Side → Access → ℕ → ℕ → Lane → Lane
+laneAfter side x mcsr answered l =
     record {
       words = fifoAfter side x answered (l .words);
       address = addressAfter side x (l .address);
       count = countAfter side x (l .count);
+      right = rightAfter side x mcsr l;
     }

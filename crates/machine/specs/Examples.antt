@@ -160,11 +160,11 @@ marked =
     ∷ example
     (nineSteps 0x4000 ++ writeCycle ∷ writeCycle ∷ pciWrite 0x38 0x00100000 ∷ writeCycle ∷ [])
     (ok ∷ ok ∷ ok ∷ ok ∷ absent 0x4000 ∷ bothHigh (refuses 11) ∷ addonHigh ok ∷ absent 0x4000 ∷ [])
-    -- 10: three words held, then four
+    -- 10: three words held, then four; by Ask 5 the other three go too
     ∷ example
     (pciWrite 0x28 16 ∷ pciWrite 0x3C 0x600 ∷ addonWrite 0x20 1 ∷ addonWrite 0x20 2 ∷ addonWrite 0x20 3 ∷ writeCycle ∷ addonWrite 0x20 4
-    ∷ writeCycle ∷ [])
-    (ok ∷ ok ∷ ok ∷ ok ∷ ok ∷ refuses 12 ∷ ok ∷ moves 0 1 0xF ∷ [])
+    ∷ writeCycle ∷ writeCycle ∷ writeCycle ∷ writeCycle ∷ [])
+    (ok ∷ ok ∷ ok ∷ ok ∷ ok ∷ refuses 12 ∷ ok ∷ moves 0 1 0xF ∷ moves 4 2 0xF ∷ moves 8 3 0xF ∷ moves 0xC 4 0xF ∷ [])
     ∷ []
 
 -- `marked-hold`: the machine meets them all

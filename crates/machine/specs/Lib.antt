@@ -10,6 +10,7 @@ pub mod Window
 pub mod Mcsr
 pub mod Cycles
 pub mod Interrupts
+pub mod Rights
 pub mod Codes
 pub mod Code
 pub mod Step

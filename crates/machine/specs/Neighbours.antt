@@ -1,5 +1,6 @@
 -- The table `Neighbours`: cases of our own, of the same form, for rules of document 01 that the ten marked examples do not reach.
 use Prim.Native.Nat.{ℕ}
+use mathlib.Core.Bool.{true, false}
 use mathlib.Core.List.{List, [], _∷_, _++_, map}
 use lib.ListN.{set, replicate}
 use Rattle.machine.specs.State.{State, Lane, resetState, resetLane}
@@ -16,7 +17,11 @@ case state start memory steps answers =
 
 -- a lane
 abbrev pub laneBy : List ℕ → ℕ → ℕ → Lane
-laneBy words address count = record { words = words; address = address; count = count }
+laneBy words address count = record { words = words; address = address; count = count; right = false }
+
+-- the same with the right of a burst
+abbrev pub bursting : List ℕ → ℕ → ℕ → Lane
+bursting words address count = record { words = words; address = address; count = count; right = true }
 
 -- a state with no mailbox byte stored
 abbrev pub stateBy : Lane → Lane → ℕ → ℕ → State
@@ -48,9 +53,19 @@ outOfForm =
     ∷ stateBy resetLane resetLane 0x100020 0 ∷ stateBy resetLane resetLane 0x102000 0 ∷ stateBy resetLane resetLane 0x900000 0
     ∷ stateBy resetLane resetLane 0x100000 0x800 ∷ stateBy resetLane resetLane 0x100000 0x80 ∷ stateBy resetLane resetLane 0x100000 0x08000000 ∷ []
 
+abbrev pub rightOutOfForm : List State
+rightOutOfForm =
+    stateBy resetLane (bursting [] 0 16) 0 0x600 ∷ stateBy resetLane (bursting (1 ∷ []) 0 0) 0 0x600 ∷ stateBy resetLane (bursting (1 ∷ []) 0 16) 0 0x400
+    ∷ stateBy resetLane (bursting (1 ∷ []) 0 16) 0 0x200 ∷ stateBy resetLane (bursting (1 ∷ []) 0 16) 0x100000 0x600
+    ∷ stateBy resetLane (bursting (1 ∷ []) 0 16) 0x200000 0x600 ∷ stateBy (bursting (replicate 8 0) 0 16) resetLane 0 0x6000
+    ∷ stateBy (bursting [] 0 0) resetLane 0 0x6000 ∷ stateBy (bursting [] 0 16) resetLane 0 0x4000 ∷ stateBy (bursting [] 0 16) resetLane 0 0x2000
+    ∷ stateBy (bursting [] 0 16) resetLane 0x100000 0x6000 ∷ stateBy (bursting [] 0 16) resetLane 0x200000 0x6000 ∷ []
+
 abbrev pub formCases : List Example
 formCases =
     map (λ st. case (withAint 0x200000 st) 0 zeroWords anyKinds (sameFour (refuses 1))) outOfForm
+    -- a right together with each of its ends
+    ++ map (λ st. case (withAint 0x200000 st) 0 zeroWords anyKinds (sameFour (refuses 1))) rightOutOfForm
     -- AINT holds no 5, 13, 20, 22 and 23
     ++ map (λ aint. case (withAint aint abortStanding) 0 zeroWords anyKinds (sameFour (refuses 1))) (0x200020 ∷ 0x202000 ∷ 0x300000 ∷ 0x600000 ∷ 0xA00000 ∷ [])
 
@@ -209,6 +224,78 @@ cycleCases =
     }
     ∷ []
 
+-- ---- the right of a burst (Ask 5)
+
+-- four words of memory; the write lane, then the read lane, with the right, and steps
+abbrev pub fourZeros : List ℕ
+fourZeros = replicate 4 0
+
+abbrev pub written : List ℕ → ℕ → List Step → List Answer → Example
+written words count steps answers = case (stateBy resetLane (bursting words 0 count) 0 0x600) 0 fourZeros steps answers
+
+abbrev pub read : List ℕ → ℕ → List Step → List Answer → Example
+read words count steps answers = case (stateBy (bursting words 0 count) resetLane 0 0x6000) 0 fourZeros steps answers
+
+abbrev pub burstCases : List Example
+burstCases =
+    -- in form, so a reset is done; the right is gone after it
+    case (stateBy (bursting (replicate 7 0) 0 1) (bursting (1 ∷ []) 0 1) 0xFDF1F 0x6600) 0 fourZeros
+    (stepBy 6 0 0 0 ∷ pciWrite 0x28 16 ∷ pciWrite 0x3C 0x600 ∷ addonWrite 0x20 1 ∷ writeCycle ∷ []) (ok ∷ ok ∷ ok ∷ ok ∷ refuses 12 ∷ [])
+    -- write cycles go while a word is held; the last one empties the FIFO
+    ∷ written (1 ∷ 2 ∷ []) 16 (writeCycle ∷ writeCycle ∷ addonWrite 0x20 3 ∷ writeCycle ∷ []) (moves 0 1 0xF ∷ moves 4 2 0xF ∷ ok ∷ refuses 12 ∷ [])
+    -- not earned without MCSR 9, nor by a cycle with three held; earned by what is held before the cycle
+    ∷ case (stateBy resetLane (laneBy (1 ∷ 2 ∷ 3 ∷ 4 ∷ []) 0 16) 0 0x400) 0 fourZeros (writeCycle ∷ pciWrite 0x3C 0x600 ∷ writeCycle ∷ []) (moves 0 1 0xF ∷ ok ∷ refuses 12 ∷ [])
+    ∷ case (stateBy resetLane (laneBy (1 ∷ 2 ∷ 3 ∷ []) 0 16) 0 0x400) 0 fourZeros (writeCycle ∷ pciWrite 0x3C 0x600 ∷ writeCycle ∷ []) (moves 0 1 0xF ∷ ok ∷ refuses 12 ∷ [])
+    ∷ case (stateBy (laneBy (1 ∷ 2 ∷ 3 ∷ 4 ∷ []) 0 16) resetLane 0 0x6000) 0 fourZeros
+    (readCycle ∷ readCycle ∷ readCycle ∷ readCycle ∷ readCycle ∷ addonRead 0x20 ∷ readCycle ∷ [])
+    (moves 0 0 0xF ∷ moves 4 0 0xF ∷ moves 8 0 0xF ∷ moves 0xC 0 0xF ∷ refuses 10 ∷ says 1 ∷ refuses 10 ∷ [])
+    ∷ case (stateBy (laneBy (1 ∷ 2 ∷ 3 ∷ 4 ∷ 5 ∷ []) 0 16) resetLane 0 0x4000) 0 fourZeros (readCycle ∷ pciWrite 0x3C 0x6000 ∷ readCycle ∷ []) (moves 0 0 0xF ∷ ok ∷ refuses 12 ∷ [])
+    -- a port read that empties the FIFO, and one that does not
+    ∷ written (1 ∷ []) 16 (pciRead 0x20 ∷ addonWrite 0x20 2 ∷ writeCycle ∷ []) (says 1 ∷ ok ∷ refuses 12 ∷ [])
+    ∷ written (1 ∷ 2 ∷ []) 16 (pciRead 0x20 ∷ writeCycle ∷ []) (says 1 ∷ moves 0 2 0xF ∷ [])
+    -- the count zero by a cycle, by a write, and a write that leaves a count
+    ∷ written (1 ∷ 2 ∷ []) 4 (writeCycle ∷ pciWrite 0x28 16 ∷ writeCycle ∷ []) (moves 0 1 0xF ∷ ok ∷ refuses 12 ∷ [])
+    ∷ written (1 ∷ 2 ∷ []) 16 (pciWrite 0x28 0 ∷ pciWrite 0x28 16 ∷ writeCycle ∷ []) (ok ∷ ok ∷ refuses 12 ∷ [])
+    ∷ written (1 ∷ 2 ∷ []) 16 (pciWrite 0x28 1 ∷ pciWrite 0x24 4 ∷ writeCycle ∷ []) (ok ∷ ok ∷ moves 4 1 0x1 ∷ [])
+    -- MCSR 9 off, 10 off, and a write without their byte
+    ∷ written (1 ∷ 2 ∷ []) 16 (pciWrite 0x3C 0x400 ∷ pciWrite 0x3C 0x600 ∷ writeCycle ∷ []) (ok ∷ ok ∷ refuses 12 ∷ [])
+    ∷ written (1 ∷ 2 ∷ []) 16 (pciWrite 0x3C 0x200 ∷ pciWrite 0x3C 0x600 ∷ writeCycle ∷ []) (ok ∷ ok ∷ refuses 12 ∷ [])
+    ∷ written (1 ∷ 2 ∷ []) 16 (stepBy 1 0x3C 13 0 ∷ writeCycle ∷ []) (ok ∷ moves 0 1 0xF ∷ [])
+    -- clears: its own FIFO's of either side, also of an empty one; the other's leaves it
+    ∷ written (1 ∷ 2 ∷ []) 16 (pciWrite 0x3C 0x04000600 ∷ addonWrite 0x20 3 ∷ writeCycle ∷ []) (ok ∷ ok ∷ refuses 12 ∷ [])
+    ∷ written (1 ∷ 2 ∷ []) 16 (addonWrite 0x3C 0x02000000 ∷ addonWrite 0x20 3 ∷ writeCycle ∷ []) (ok ∷ ok ∷ refuses 12 ∷ [])
+    ∷ written (1 ∷ 2 ∷ []) 16 (pciWrite 0x3C 0x02000600 ∷ addonWrite 0x3C 0x04000000 ∷ writeCycle ∷ []) (ok ∷ ok ∷ moves 0 1 0xF ∷ [])
+    -- refusals leave it
+    ∷ written (1 ∷ 2 ∷ []) 16 (readCycle ∷ pciRead 0x40 ∷ stepBy 1 0x20 7 0 ∷ addonRead 0x20 ∷ writeCycle ∷ []) (refuses 9 ∷ refuses 4 ∷ refuses 6 ∷ refuses 8 ∷ moves 0 1 0xF ∷ [])
+    -- read cycles go while there is room; the last one fills the FIFO
+    ∷ read (replicate 6 9) 16 (readCycle ∷ readCycle ∷ addonRead 0x20 ∷ readCycle ∷ []) (moves 0 0 0xF ∷ moves 4 0 0xF ∷ says 9 ∷ refuses 12 ∷ [])
+    -- a port write that fills it, and one that does not
+    ∷ read (replicate 7 9) 16 (pciWrite 0x20 1 ∷ addonRead 0x20 ∷ readCycle ∷ []) (ok ∷ says 9 ∷ refuses 12 ∷ [])
+    ∷ read (replicate 6 9) 16 (pciWrite 0x20 1 ∷ readCycle ∷ []) (ok ∷ moves 0 0 0xF ∷ [])
+    ∷ read (replicate 7 9) 4 (addonRead 0x20 ∷ readCycle ∷ pciWrite 0x30 16 ∷ readCycle ∷ []) (says 9 ∷ moves 0 0 0xF ∷ ok ∷ refuses 12 ∷ [])
+    ∷ read (replicate 6 9) 16 (pciWrite 0x30 0 ∷ pciWrite 0x30 16 ∷ readCycle ∷ []) (ok ∷ ok ∷ refuses 12 ∷ [])
+    ∷ read (replicate 6 9) 16 (pciWrite 0x30 1 ∷ pciWrite 0x2C 4 ∷ readCycle ∷ []) (ok ∷ ok ∷ moves 4 0 0x1 ∷ [])
+    ∷ read (replicate 6 9) 16 (pciWrite 0x3C 0x4000 ∷ pciWrite 0x3C 0x6000 ∷ readCycle ∷ []) (ok ∷ ok ∷ refuses 12 ∷ [])
+    ∷ read (replicate 6 9) 16 (pciWrite 0x3C 0x2000 ∷ pciWrite 0x3C 0x6000 ∷ readCycle ∷ []) (ok ∷ ok ∷ refuses 12 ∷ [])
+    ∷ read [] 16 (pciWrite 0x3C 0x02006000 ∷ pciWrite 0x20 1 ∷ pciWrite 0x20 2 ∷ pciWrite 0x20 3 ∷ pciWrite 0x20 4 ∷ pciWrite 0x20 5 ∷ readCycle ∷ [])
+    (ok ∷ ok ∷ ok ∷ ok ∷ ok ∷ ok ∷ refuses 12 ∷ [])
+    ∷ read [] 16 (addonWrite 0x3C 0x04000000 ∷ pciWrite 0x20 1 ∷ pciWrite 0x20 2 ∷ pciWrite 0x20 3 ∷ pciWrite 0x20 4 ∷ pciWrite 0x20 5 ∷ readCycle ∷ [])
+    (ok ∷ ok ∷ ok ∷ ok ∷ ok ∷ ok ∷ refuses 12 ∷ [])
+    ∷ read (replicate 6 9) 16 (pciWrite 0x3C 0x04006000 ∷ addonWrite 0x3C 0x02000000 ∷ readCycle ∷ []) (ok ∷ ok ∷ moves 0 0 0xF ∷ [])
+    -- an abort of either direction ends both; before it each cycle may take what the other's cannot
+    ∷ case (stateBy (bursting (replicate 6 9) 0 16) (bursting (1 ∷ 2 ∷ []) 0x10 16) 0 0x6600) 0 fourZeros
+    (writeCycle ∷ pciWrite 0x38 0x00100000 ∷ pciWrite 0x24 0 ∷ writeCycle ∷ readCycle ∷ []) (absent 0x10 ∷ addonHigh ok ∷ addonHigh ok ∷ addonHigh (refuses 12) ∷ addonHigh (refuses 12) ∷ [])
+    ∷ case (stateBy (bursting (replicate 6 9) 0x10 16) (bursting (1 ∷ 2 ∷ []) 0 16) 0 0x6600) 0 fourZeros
+    (readCycle ∷ pciWrite 0x38 0x00100000 ∷ pciWrite 0x2C 0 ∷ writeCycle ∷ readCycle ∷ []) (absent 0x10 ∷ addonHigh ok ∷ addonHigh ok ∷ addonHigh (refuses 12) ∷ addonHigh (refuses 12) ∷ [])
+    -- each direction's right is its own, and so are its ends
+    ∷ case (stateBy (bursting (replicate 6 9) 0 16) (bursting (1 ∷ 2 ∷ []) 0 16) 0 0x6600) 0 fourZeros (pciWrite 0x30 0 ∷ writeCycle ∷ pciWrite 0x30 16 ∷ readCycle ∷ [])
+    (ok ∷ moves 0 1 0xF ∷ ok ∷ refuses 12 ∷ [])
+    ∷ case (stateBy (bursting (replicate 6 9) 0 16) (bursting (1 ∷ 2 ∷ []) 0 16) 0 0x6600) 0 fourZeros (pciWrite 0x3C 0x6400 ∷ readCycle ∷ pciWrite 0x3C 0x6600 ∷ writeCycle ∷ [])
+    (ok ∷ moves 0 0 0xF ∷ ok ∷ refuses 12 ∷ [])
+    -- AINT's abort bit ends none
+    ∷ case (withAint 0x200000 (stateBy resetLane (bursting (1 ∷ 2 ∷ []) 0 16) 0 0x600)) 0 fourZeros (writeCycle ∷ writeCycle ∷ []) (addonHigh (moves 0 1 0xF) ∷ addonHigh (moves 4 2 0xF) ∷ [])
+    ∷ []
+
 -- ---- events and the line
 
 abbrev pub eventCases : List Example
@@ -299,7 +386,7 @@ addonCases =
     ∷ []
 
 abbrev pub neighbours : List Example
-neighbours = formCases ++ windowCases ++ accessCases ++ mailCases ++ cycleCases ++ eventCases ++ addonCases
+neighbours = formCases ++ windowCases ++ accessCases ++ mailCases ++ cycleCases ++ burstCases ++ eventCases ++ addonCases
 
 -- `neighbours-hold`: the machine meets these too
 abbrev pub NeighboursHold : Type 0

@@ -1,15 +1,17 @@
 -- What the controller holds.
 use Prim.Native.Nat.{ℕ}
+use mathlib.Core.Bool.{Bool, false}
 use mathlib.Core.List.{List, []}
 use lib.ListN.{replicate}
 use Rattle.machine.specs.Sides.{Side, pci, addon}
 
--- A lane: the words of a FIFO, front first, and the address and count registers of the cycles that work on it.
+-- A lane: the words of a FIFO, front first, the address and count registers of the cycles that work on it, and whether these have the right of a burst (Ask 5).
 -- Write cycles work on the lane from the Add-On, read cycles on the lane from PCI.
 pub record Lane : Type 0 where
   pub words : List ℕ
   pub address : ℕ
   pub count : ℕ
+  pub right : Bool
 
 -- The numbers and lists may be any; a controller's are words of 32 bits and eight mailbox words.
 -- mail has the mailbox words by their offset / 4; marks has a one for each full byte, as the status register shows them
@@ -30,9 +32,9 @@ lane addon st = st .fromAddon
 abbrev pub held : Side → State → List ℕ
 held side st = lane side st .words
 
--- Register offsets: after a reset everything held is zero and no word is in a FIFO
+-- Register offsets, Ask 5: after a reset everything held is zero, no word is in a FIFO and no cycle has a right
 abbrev pub resetLane : Lane
-resetLane = record { words = []; address = 0; count = 0 }
+resetLane = record { words = []; address = 0; count = 0; right = false }
 
 abbrev pub resetState : State
 resetState = record { mail = replicate 8 0; marks = 0; fromPci = resetLane; fromAddon = resetLane; intcsr = 0; mcsr = 0; aint = 0 }

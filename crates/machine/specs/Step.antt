@@ -13,8 +13,9 @@ use Rattle.machine.specs.Mailboxes.{marksAt, changes, marksAfter, mailAf
 use Rattle.machine.specs.Fifos.{front}
 use Rattle.machine.specs.Window.{placeOf, isWindowOutOfForm}
 use Rattle.machine.specs.Mcsr.{mcsrAfter, fifoStatus, mcsrStatus, mcsrRead, agcstsRead}
-use Rattle.machine.specs.Cycles.{lowEnables, isReady, cycleWord, stored, addressAfter, countAfter, laneAfter}
+use Rattle.machine.specs.Cycles.{lowEnables, isReady, cycleWord, stored, addressAfter, countAfter, rightAfter, laneAfter}
 use Rattle.machine.specs.Interrupts.{interrupts, interruptsWritten, outgoingEvent, incomingEvent, notified, interruptsAfter, interruptsAborted, lineOf, interruptsRead}
+use Rattle.machine.specs.Rights.{settled, rightless}
 use Rattle.machine.specs.Codes.{done, stateOutOfForm, noMemoryThere, notAFrameLine}
 use Rattle.machine.specs.Code.{codeOf, isOutOfForm, isUnknownOffset, hasBadEnables, isPartFifoAccess, isReadOnlyWrite, isFullOrEmpty, isTransferOff, isCountZero, isAbortStanding, isNotReady, isNoMemory}
 use Rattle.machine.specs.declared.Step.{Step}
@@ -100,27 +101,31 @@ notAFrame st = answered st notAFrameLine nothing
 
 -- ---- what is left
 
--- a done step that is no reset: each register by its own rule
-unfoldable pub doneState : State → Access → ℕ → State
-doneState st x word =
+-- each register by its own rule
+unfoldable pub movedState : State → Access → ℕ → State
+movedState st x word =
     record {
       mail = mailAfter x (st .mail);
       marks = marksAfter x (st .marks);
-      fromPci = laneAfter pci x word (st .fromPci);
-      fromAddon = laneAfter addon x word (st .fromAddon);
+      fromPci = laneAfter pci x (st .mcsr) word (st .fromPci);
+      fromAddon = laneAfter addon x (st .mcsr) word (st .fromAddon);
       intcsr = interruptsAfter pci (x .kind) st x;
       mcsr = mcsrAfter x (st .mcsr);
       aint = interruptsAfter addon (x .kind) st x;
     }
 
--- code 13: the abort flag of either interrupt register goes up, and all else stays
+-- a done step that is no reset; last, rights end that have met an end (Ask 5)
+unfoldable pub doneState : State → Access → ℕ → State
+doneState st x word = settled (movedState st x word)
+
+-- code 13: the abort flag of either interrupt register goes up, which ends both rights (Ask 5); all else stays
 unfoldable pub abortedState : State → State
 abortedState st =
     record {
       mail = st .mail;
       marks = st .marks;
-      fromPci = st .fromPci;
-      fromAddon = st .fromAddon;
+      fromPci = rightless (st .fromPci);
+      fromAddon = rightless (st .fromAddon);
       intcsr = interruptsAborted pci (st .intcsr);
       mcsr = st .mcsr;
       aint = interruptsAborted addon (st .aint);
@@ -155,5 +160,5 @@ stepOf st start memory s = let x = accessOf s in respond st start memory x (code
 
 -- a proof that says `unfolding computing` computes a step of given numbers: this opens every rule
 unfoldable pub computing : ℕ
-unfolding bit flag byteMask mask cleared raised shown merged written only marksAt changes marksAfter mailAfter placeOf isWindowOutOfForm mcsrAfter fifoStatus mcsrStatus mcsrRead agcstsRead lowEnables isReady cycleWord stored addressAfter countAfter interruptsWritten outgoingEvent incomingEvent notified interruptsAfter interruptsAborted lineOf interruptsRead codeOf isOutOfForm isUnknownOffset hasBadEnables isPartFifoAccess isReadOnlyWrite isFullOrEmpty isTransferOff isCountZero isAbortStanding isNotReady isNoMemory register readValue doneReply abortedReply replyOf answered notAFrame doneState abortedState stateAfter memoryAfter respond stepOf
+unfolding bit flag byteMask mask cleared raised shown merged written only marksAt changes marksAfter mailAfter placeOf isWindowOutOfForm mcsrAfter fifoStatus mcsrStatus mcsrRead agcstsRead lowEnables isReady cycleWord stored addressAfter countAfter rightAfter interruptsWritten outgoingEvent incomingEvent notified interruptsAfter interruptsAborted lineOf interruptsRead settled codeOf isOutOfForm isUnknownOffset hasBadEnables isPartFifoAccess isReadOnlyWrite isFullOrEmpty isTransferOff isCountZero isAbortStanding isNotReady isNoMemory register readValue doneReply abortedReply replyOf answered notAFrame movedState doneState abortedState stateAfter memoryAfter respond stepOf
 computing = 0

@@ -1,12 +1,18 @@
 -- Words, bytes and bits. A step and its answer: an access touches byte i where bit i of its enables is one (on the bus it would be zero).
 use Prim.Native.Nat.{ℕ, suc, _+_, _-_, _*_, _/_, _%_, _^_}
-use mathlib.Core.Bool.{Bool, cond}
+use mathlib.Core.Bool.{Bool, false, cond, _||_}
+use mathlib.Core.List.{List, [], _∷_}
 use lib.Dec.{eqb}
 use lib.Bits.{bitAnd, bitOr}
 
 -- bit k of x
 unfoldable pub bit : ℕ → ℕ → Bool
 bit x k = eqb (x / 2 ^ k % 2) 1
+
+-- whether one of some tests holds
+abbrev pub anyOf : List Bool → Bool
+anyOf [] = false
+anyOf (b ∷ bs) = b || anyOf bs
 
 -- ones at bits low to high, zeros elsewhere
 abbrev pub ones : ℕ → ℕ → ℕ

@@ -89,6 +89,12 @@ register-table st =
 
 -- ---- cycles
 
+-- one is enough: four are not asked for, or there is the right
+enough : (four right : Bool) → not (four && not right) ≡ (not four || right)
+enough true true = refl
+enough true false = refl
+enough false right = refl
+
 module _ (n : ℕ) where
   held-ready : (four : Bool) → leb (cond four 4 1) n ≡ (leb 4 n || not four && leb 1 n)
   held-ready true = sym (or-false (leb 4 n))
@@ -109,9 +115,12 @@ pub ready-rule : ReadyRule
 unfolding isReady
 ready-rule st =
     let n = length (st .fromPci .words) in
+    let m = length (st .fromAddon .words) in
+    let write = enough (bit (st .mcsr) 9) (st .fromAddon .right) in
+    let read = enough (bit (st .mcsr) 13) (st .fromPci .right) in
     record {
-      write = held-ready (length (st .fromAddon .words)) (bit (st .mcsr) 9);
-      read = held-ready (8 - n) (bit (st .mcsr) 13) ∙ (λ i. room-is n 4 (omega arith) (omega arith) i || not (bit (st .mcsr) 13) && room-is n 1 (omega arith) (omega arith) i);
+      write = held-ready m (bit (st .mcsr) 9 && not (st .fromAddon .right)) ∙ (λ i. leb 4 m || write i && leb 1 m);
+      read = held-ready (8 - n) (bit (st .mcsr) 13 && not (st .fromPci .right)) ∙ (λ i. room-is n 4 (omega arith) (omega arith) i || read i && room-is n 1 (omega arith) (omega arith) i);
     }
 
 pub place-rule : PlaceRule

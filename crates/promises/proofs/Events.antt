@@ -12,7 +12,8 @@ use Rattle.machine.specs.Access.{Access, Kind, kindOf, reading, writing, cycle,
 use Rattle.machine.specs.Mailboxes.{changes}
 use Rattle.machine.specs.Cycles.{runsOut}
 use Rattle.machine.specs.Interrupts.{interrupts, interruptsKept, flags, interruptsWritten, chosenOutgoing, chosenIncoming, outgoingEvent, incomingEvent, notified, interruptsAfter}
-use Rattle.machine.specs.Step.{stepOf, respond, answered, replyOf, stateAfter, doneState}
+use Rattle.machine.specs.Rights.{settled}
+use Rattle.machine.specs.Step.{stepOf, respond, answered, replyOf, stateAfter, movedState, doneState}
 use Rattle.laws.proofs.KindNumbers.{named}
 use Rattle.laws.proofs.Bits.{bit-raised}
 use Rattle.laws.proofs.Marks.{fillsByte, takesByte, change-at}
@@ -167,7 +168,7 @@ by-kind pci k h f unknown st o n v = quiet pci k h f (bit (st .intcsr) k)
 by-kind addon k h f unknown st o n v = quiet addon k h f (bit (st .aint) k)
 
 pub event-rule : EventRule
-unfolding stepOf respond answered replyOf stateAfter doneState
+unfolding stepOf respond answered replyOf stateAfter movedState settled doneState
 event-rule pci k h f st start memory s e r =
     rw (e, named (s .kind) .reset, r) (by-kind pci k h f (kindOf (s .kind)) st (s .offset) (s .enables) (s .value))
 event-rule addon k h f st start memory s e r =

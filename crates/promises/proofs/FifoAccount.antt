@@ -14,7 +14,8 @@ use Rattle.machine.specs.Commands.{clearsFifo}
 use Rattle.machine.specs.Fifos.{letIn, handedOut, fifoAfter, isEmpty, isFull, front, followed}
 use Rattle.machine.specs.Cycles.{isReady, cycleWord}
 use Rattle.machine.specs.Code.{codeOf, tests, isPortStuck, isFullOrEmpty, isNotReady}
-use Rattle.machine.specs.Step.{replyOf, doneReply, readValue, doneState, stateAfter, abortedState, stepOf, respond, answered}
+use Rattle.machine.specs.Rights.{settled}
+use Rattle.machine.specs.Step.{replyOf, doneReply, readValue, movedState, doneState, stateAfter, abortedState, stepOf, respond, answered}
 use Rattle.machine.specs.Event.{Event}
 use Rattle.machine.specs.Run.{run}
 use Rattle.promises.specs.Account.{isDone, Tally, fresh, tallyAfter, talliedFrom}
@@ -27,7 +28,7 @@ use Rattle.promises.proofs.After.{part-refused, part-done}
 -- ---- one step
 
 held-done : (side : Side) (st : State) (x : Access) (word : ℕ) → held side (doneState st x word) ≡ fifoAfter side x word (held side st)
-unfolding doneState
+unfolding movedState settled doneState
 held-done pci st x word = refl
 held-done addon st x word = refl
 
@@ -53,7 +54,7 @@ ready-holds four (w ∷ ws) e = eqb·suc-zero (length ws)
 holds-one : (st : State) (x : Access) → cycles addon (x .kind) ≡ true → isNotReady st x ≡ false → isEmpty (held addon st) ≡ false
 unfolding isNotReady isReady
 holds-one st x c f =
-    ready-holds (bit (st .mcsr) 9) (held addon st) (and-at (cycles addon (x .kind)) _ c (neither (λ s. cycles s (x .kind) && not (isReady s st)) f addon))
+    ready-holds (bit (st .mcsr) 9 && not (st .fromAddon .right)) (held addon st) (and-at (cycles addon (x .kind)) _ c (neither (λ s. cycles s (x .kind) && not (isReady s st)) f addon))
 
 -- what is handed out stands in front
 abbrev InFront : List ℕ → List ℕ → Type 0

@@ -22,7 +22,8 @@ use Rattle.machine.specs.Mcsr.{mcsrKept, mcsrAfter}
 use Rattle.machine.specs.Cycles.{addressKept, countKept, stored, addressAfter, countAfter, laneAfter}
 use Rattle.machine.specs.Interrupts.{interrupts, interruptsKept, flags, interruptsWritten, notified, interruptsAfter, interruptsAborted}
 use Rattle.machine.specs.Code.{codeOf}
-use Rattle.machine.specs.Step.{Outcome, register, notAFrame, answered, doneState, abortedState, stateAfter, memoryAfter, replyOf, respond, stepOf}
+use Rattle.machine.specs.Rights.{settled}
+use Rattle.machine.specs.Step.{Outcome, register, notAFrame, answered, movedState, doneState, abortedState, stateAfter, memoryAfter, replyOf, respond, stepOf}
 use Rattle.promises.specs.Readings.{byteIf, readThen, addresses, values, lowestEnables}
 use Rattle.promises.specs.Theorems.{cycleAddress}
 use Rattle.promises.specs.Fits.{AllBelow, WordsFit, LaneFits, StateFits, AnswerFits, ResetFits, FitKept, RunsFit, toStep, toNoFrame, GivenFits}
@@ -118,9 +119,9 @@ fifo-fits side x word ws p q h =
     (followed-below (2 ^ 32) (drop (length (handedOut side x word)) ws) (letIn side x word) (drop-below (2 ^ 32) (length (handedOut side x word)) ws h)
     (cond-below (2 ^ 32) (cycleFeeds side x) (word ∷ []) _ (p, tt) (cond-below (2 ^ 32) (writes side fifoPort x) (x .value ∷ []) [] (q, tt) tt)))
 
-lane-fits : (side : Side) (x : Access) (word : ℕ) (l : Lane) → word < 2 ^ 32 → x .value < 2 ^ 32 → LaneFits l → LaneFits (laneAfter side x word l)
+lane-fits : (side : Side) (x : Access) (word : ℕ) (m : ℕ) (l : Lane) → word < 2 ^ 32 → x .value < 2 ^ 32 → LaneFits l → LaneFits (laneAfter side x m word l)
 unfolding addressAfter countAfter
-lane-fits side x word l p q h =
+lane-fits side x word m l p q h =
     record {
       words = fifo-fits side x word (l .words) p q (h .words);
       address = below-cond (writes pci (addressAt side) x) (written-lt addressKept (l .address) (x .value) (x .enables)) (below-cond (cycles side (x .kind)) (mod-lt (l .address + 4) (omega arith)) (h .address));
@@ -150,13 +151,13 @@ unfolding mcsrAfter
 mcsr-fits x old h = below-cond (writes pci controlAt x) (written-lt mcsrKept old (x .value) (x .enables)) h
 
 done-fits : (st : State) (x : Access) (word : ℕ) → word < 2 ^ 32 → x .value < 2 ^ 32 → StateFits st → StateFits (doneState st x word)
-unfolding doneState
+unfolding movedState settled doneState
 done-fits st x word p q h =
     record {
       mail = mail-fits x (st .mail) (h .mail);
       marks = marks-fit x (st .marks) (h .marks);
-      fromPci = lane-fits pci x word (st .fromPci) p q (h .fromPci);
-      fromAddon = lane-fits addon x word (st .fromAddon) p q (h .fromAddon);
+      fromPci = let f = lane-fits pci x word (st .mcsr) (st .fromPci) p q (h .fromPci) in record { words = f .words; address = f .address; count = f .count };
+      fromAddon = let f = lane-fits addon x word (st .mcsr) (st .fromAddon) p q (h .fromAddon) in record { words = f .words; address = f .address; count = f .count };
       intcsr = interrupts-fit pci (x .kind) st x (h .intcsr);
       mcsr = mcsr-fits x (st .mcsr) (h .mcsr);
       aint = interrupts-fit addon (x .kind) st x (h .aint);
@@ -181,8 +182,8 @@ aborted-fits st h =
     record {
       mail = h .mail;
       marks = h .marks;
-      fromPci = h .fromPci;
-      fromAddon = h .fromAddon;
+      fromPci = record { words = h .fromPci .words; address = h .fromPci .address; count = h .fromPci .count };
+      fromAddon = record { words = h .fromAddon .words; address = h .fromAddon .address; count = h .fromAddon .count };
       intcsr = raised-lt (st .intcsr) true 20 (omega arith) (h .intcsr);
       mcsr = h .mcsr;
       aint = raised-lt (st .aint) true 21 (omega arith) (h .aint);

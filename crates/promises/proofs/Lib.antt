@@ -15,5 +15,7 @@ pub mod Aborts
 pub mod Steps
 pub mod Answers
 pub mod Messages
+pub mod Rights
+pub mod Bursts
 pub mod Fits
 pub mod Unique

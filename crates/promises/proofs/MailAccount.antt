@@ -15,7 +15,8 @@ use Rattle.machine.specs.Offsets.{isMailbox}
 use Rattle.machine.specs.Commands.{clearsMarks}
 use Rattle.machine.specs.Mailboxes.{marksAt}
 use Rattle.machine.specs.Code.{codeOf}
-use Rattle.machine.specs.Step.{replyOf, stateAfter, stepOf, respond, answered, doneState, abortedState}
+use Rattle.machine.specs.Rights.{settled}
+use Rattle.machine.specs.Step.{replyOf, stateAfter, stepOf, respond, answered, movedState, doneState, abortedState}
 use Rattle.machine.specs.Event.{Event}
 use Rattle.machine.specs.Run.{run}
 use Rattle.promises.specs.Account.{ByteEvent, write, read, clear, none, isDone, toByte, ownerWrites, otherReads, clearsBytes, touch, later, latest, wasWrite}
@@ -117,7 +118,7 @@ touch-is k h e =
 
 mark-step : (k : ℕ) → k < 32 → (st : State) (x : Access) (code word : ℕ)
     → bit (stateAfter st x code word .marks) k ≡ touched (cond (eqb code 0) (touchOf k x) none) (bit (st .marks) k)
-unfolding doneState abortedState
+unfolding movedState settled doneState abortedState
 mark-step k h st x zero word =
     part-done (λ (s : State). bit (s .marks) k) st x word (clearsMarks x) false _ (bit-zero k) (mark-after k h x (st .marks))
     ∙ touched-cond (isReset (x .kind) || clearsMarks x) (fillsByte k x) (takesByte k x) (bit (st .marks) k)

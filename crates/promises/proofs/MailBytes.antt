@@ -15,7 +15,8 @@ use Rattle.machine.specs.Access.{Access, accessOf, isWriteBy, isReset}
 use Rattle.machine.specs.Offsets.{isMailbox, writer}
 use Rattle.machine.specs.Mailboxes.{marksAt, fills, mailAfter}
 use Rattle.machine.specs.Code.{codeOf}
-use Rattle.machine.specs.Step.{replyOf, stateAfter, stepOf, respond, answered, doneState, abortedState}
+use Rattle.machine.specs.Rights.{settled}
+use Rattle.machine.specs.Step.{replyOf, stateAfter, stepOf, respond, answered, movedState, doneState, abortedState}
 use Rattle.machine.specs.Event.{Event}
 use Rattle.machine.specs.Run.{run}
 use Rattle.promises.specs.Account.{byteOf, byteAfter, byteFrom}
@@ -79,13 +80,13 @@ byte-reset k h = ap (byteOf (k % 4)) (getD-replicate 8 (k / 4) 0 0 (omega arith)
 byte-step : (k : ℕ) → k < 32 → (st : State) → length (st .mail) ≡ 8 → (x : Access) (code word : ℕ)
     → byteIn k (stateAfter st x code word)
     ≡ cond (eqb code 0) (cond (isReset (x .kind)) 0 (cond (fillsByte k x) (byteOf (k % 4) (x .value)) (byteIn k st))) (byteIn k st)
-unfolding doneState abortedState
+unfolding movedState settled doneState abortedState
 byte-step k h st eight x zero word =
     part-done (byteIn k) st x word false 0 (cond (fillsByte k x) (byteOf (k % 4) (x .value)) (byteIn k st)) (byte-reset k h) (mail-byte k h (st .mail) eight x) ∙ rw or-false
 byte-step k h st eight x (suc c) word = rw (part-refused (byteIn k) st x c word refl, eqb·suc-zero c)
 
 eight-step : (st : State) → length (st .mail) ≡ 8 → (x : Access) (code word : ℕ) → length (stateAfter st x code word .mail) ≡ 8
-unfolding stateAfter doneState abortedState
+unfolding stateAfter movedState settled doneState abortedState
 eight-step st eight x zero word = by (isReset (x .kind))
   where
     by : (b : Bool) → length (cond b resetState (doneState st x word) .mail) ≡ 8

@@ -8,7 +8,7 @@ use lib.Dec.{eqb, ltb}
 use lib.Bits.{bitXor}
 use lib.ListN.{length}
 use borrow.Author.Tests.{eqb-true, ne-eqb, lt-ltb, ltb-true}
-use Rattle.machine.specs.Words.{bit, raised}
+use Rattle.machine.specs.Words.{bit, anyOf, raised}
 use Rattle.machine.specs.Sides.{Side, pci, addon, host, card}
 use Rattle.machine.specs.State.{State}
 use Rattle.machine.specs.Access.{Access, accessOf, kindOf}
@@ -16,8 +16,9 @@ use Rattle.machine.specs.Commands.{clearsMarks}
 use Rattle.machine.specs.Mailboxes.{changes, marksAfter}
 use Rattle.machine.specs.Cycles.{runsOut}
 use Rattle.machine.specs.Interrupts.{interrupts, chosenOutgoing, chosenIncoming, outgoingEvent, incomingEvent, notified, interruptsAfter, abortBit, interruptsAborted}
-use Rattle.machine.specs.Code.{anyOf, codeOf}
-use Rattle.machine.specs.Step.{Outcome, stepOf, respond, answered, replyOf, stateAfter, doneState, abortedState}
+use Rattle.machine.specs.Code.{codeOf}
+use Rattle.machine.specs.Rights.{settled}
+use Rattle.machine.specs.Step.{Outcome, stepOf, respond, answered, replyOf, stateAfter, movedState, doneState, abortedState}
 use Rattle.machine.specs.Event.{Event}
 use Rattle.machine.specs.Run.{run}
 use Rattle.machine.specs.declared.Step.{Step}
@@ -48,7 +49,7 @@ module _ (st : State) (start : ℕ) (memory : List ℕ) (s : Step) where
 
   -- a done access below offset 20 is no clear and no reset
   marks-turned : (word : ℕ) → s .kind < 4 → s .offset < 0x20 → stateAfter st x 0 word .marks ≡ bitXor (st .marks) (changes x (st .marks))
-  unfolding stateAfter doneState marksAfter
+  unfolding stateAfter movedState settled doneState marksAfter
   marks-turned word k h = rw (named (s .kind) .reset, ne-eqb (s .kind) 6 (λ q. omega arith)) (simp (ne-eqb (s .offset) 0x3C (λ q. omega arith), and-false))
 
   by-place : (word : ℕ) (a b : Bool) → ltb (s .kind) 4 ≡ a → ltb (s .offset) 0x20 ≡ b
@@ -325,7 +326,7 @@ module _ (side : Side) (st : State) (start : ℕ) (memory : List ℕ) (s : Step)
       by addon l = free (eqb number 0) (eqb (s .kind) 6) _ l e
 
   done-interrupts : eqb number 0 ≡ true → eqb (s .kind) 6 ≡ false → interrupts side (then .state) ≡ interruptsAfter side (kindOf (s .kind)) st (accessOf s)
-  unfolding stepOf respond stateAfter doneState
+  unfolding stepOf respond stateAfter movedState settled doneState
   done-interrupts e r = by side
     where
       by : (of : Side) → interrupts of (then .state) ≡ interruptsAfter of (kindOf (s .kind)) st (accessOf s)

@@ -12,7 +12,8 @@ use Rattle.machine.specs.Access.{Kind, kindOf, reading, writing, cycle, chipRes
 use Rattle.machine.specs.Mcsr.{mcsrKept, mcsrAfter}
 use Rattle.machine.specs.Cycles.{addressAfter, countAfter}
 use Rattle.machine.specs.Interrupts.{interrupts, interruptsKept, flags, interruptsWritten, notified, interruptsAfter, lineOf}
-use Rattle.machine.specs.Step.{stepOf, respond, answered, replyOf, doneReply, stateAfter, memoryAfter, doneState}
+use Rattle.machine.specs.Rights.{settled}
+use Rattle.machine.specs.Step.{stepOf, respond, answered, replyOf, doneReply, stateAfter, memoryAfter, movedState, doneState}
 use Rattle.promises.specs.Readings.{RegisterRule, ResetRule}
 use Rattle.laws.proofs.KindNumbers.{Named, named}
 use Rattle.laws.proofs.Bits.{bit-raised}
@@ -63,7 +64,7 @@ module _ (k : ℕ) (h : k < 16) where
 -- ---- all of them
 
 pub register-rule : RegisterRule
-unfolding stepOf respond answered replyOf stateAfter doneState addressAfter countAfter mcsrAfter
+unfolding stepOf respond answered replyOf stateAfter movedState settled doneState addressAfter countAfter mcsrAfter
 register-rule st start memory s e r =
     rw (e, named (s .kind) .reset, r) (record {
       writeAddress = turn (n .writeCycle) _ _ _ _;

@@ -4,11 +4,10 @@ use mathlib.Core.Path.{_≡_}
 use mathlib.Core.Bool.{Bool, true, cond, not, _&&_, _||_}
 use mathlib.Core.List.{List, _∷_, _++_, map}
 use lib.Dec.{eqb, ltb}
-use Rattle.machine.specs.Words.{bit}
+use Rattle.machine.specs.Words.{bit, anyOf}
 use Rattle.machine.specs.Sides.{Side, pci, addon}
 use Rattle.machine.specs.State.{State}
 use Rattle.machine.specs.Interrupts.{interrupts}
-use Rattle.machine.specs.Code.{anyOf}
 use Rattle.machine.specs.Step.{stepOf}
 use Rattle.machine.specs.Event.{Event}
 use Rattle.machine.specs.Run.{run}

@@ -6,7 +6,7 @@ use mathlib.Core.List.{List, [], _∷_, map}
 use lib.Dec.{eqb, leb, ltb}
 use lib.Bits.{bitXor}
 use lib.ListN.{length, getD, set}
-use Rattle.machine.specs.Words.{bit, shown, merged, written}
+use Rattle.machine.specs.Words.{bit, anyOf, shown, merged, written}
 use Rattle.machine.specs.Sides.{Side, pci, addon}
 use Rattle.machine.specs.State.{State, resetState}
 use Rattle.machine.specs.Access.{Access, Kind, accessOf, isRead, isWrite, cycles}
@@ -16,7 +16,7 @@ use Rattle.machine.specs.Window.{placeOf}
 use Rattle.machine.specs.Mcsr.{mcsrKept, mcsrRead, agcstsRead}
 use Rattle.machine.specs.Cycles.{addressKept, countKept, lowEnables, isReady}
 use Rattle.machine.specs.Interrupts.{interrupts, interruptsKept, flags, interruptsWritten, lineOf, interruptsRead}
-use Rattle.machine.specs.Code.{anyOf, isOutOfForm}
+use Rattle.machine.specs.Code.{isOutOfForm}
 use Rattle.machine.specs.Step.{register, stepOf}
 use Rattle.promises.specs.Account.{byteOf}
 use Rattle.machine.specs.declared.Step.{Step}
@@ -144,11 +144,11 @@ pub record RegisterTable (st : State) : Type 0 where
 abbrev pub RegisterTables : Type 0
 RegisterTables = (st : State) → RegisterTable st
 
--- `ready-rule`: FIFOs and memory cycles, a write cycle with four words or, where MCSR 9 is clear, with one; a read cycle with room for four
--- or, where MCSR 13 is clear, for one
+-- `ready-rule`: FIFOs and memory cycles, Ask 5: a write cycle with four words or, where MCSR 9 is clear or it has the right, with one; a read cycle
+-- with room for four or, where MCSR 13 is clear or it has the right, for one
 pub record ReadyThen (st : State) : Type 0 where
-  pub write : isReady addon st ≡ (leb 4 (length (st .fromAddon .words)) || not (bit (st .mcsr) 9) && leb 1 (length (st .fromAddon .words)))
-  pub read : isReady pci st ≡ (leb (length (st .fromPci .words)) 4 || not (bit (st .mcsr) 13) && leb (length (st .fromPci .words)) 7)
+  pub write : isReady addon st ≡ (leb 4 (length (st .fromAddon .words)) || (not (bit (st .mcsr) 9) || st .fromAddon .right) && leb 1 (length (st .fromAddon .words)))
+  pub read : isReady pci st ≡ (leb (length (st .fromPci .words)) 4 || (not (bit (st .mcsr) 13) || st .fromPci .right) && leb (length (st .fromPci .words)) 7)
 
 abbrev pub ReadyRule : Type 0
 ReadyRule = (st : State) → ReadyThen st

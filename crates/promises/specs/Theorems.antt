@@ -39,12 +39,12 @@ Refused =
 abbrev pub NotAFrameAnswer : Type 0
 NotAFrameAnswer = (st : State) → notAFrame st ≡ refusal 14 st
 
--- all but the interrupt registers is as it was; INTCSR has bit 20 besides, AINT bit 21
+-- all but the interrupt registers and the rights is as it was; INTCSR has bit 20 besides, AINT bit 21; neither lane has a right (Ask 5)
 pub record AbortOnly (st after : State) : Type 0 where
   pub mail : after .mail ≡ st .mail
   pub marks : after .marks ≡ st .marks
-  pub fromPci : after .fromPci ≡ st .fromPci
-  pub fromAddon : after .fromAddon ≡ st .fromAddon
+  pub fromPci : after .fromPci ≡ record { words = st .fromPci .words; address = st .fromPci .address; count = st .fromPci .count; right = false }
+  pub fromAddon : after .fromAddon ≡ record { words = st .fromAddon .words; address = st .fromAddon .address; count = st .fromAddon .count; right = false }
   pub intcsr : (k : ℕ) → bit (after .intcsr) k ≡ (bit (st .intcsr) k || eqb k 20)
   pub mcsr : after .mcsr ≡ st .mcsr
   pub aint : (k : ℕ) → bit (after .aint) k ≡ (bit (st .aint) k || eqb k 21)
@@ -53,7 +53,7 @@ pub record AbortOnly (st after : State) : Type 0 where
 abbrev pub cycleAddress : State → Step → ℕ
 cycleAddress st s = cond (eqb (s .kind) 4) (st .fromAddon .address) (cond (eqb (s .kind) 5) (st .fromPci .address) 0)
 
--- `aborted`: by code 13 flag 20 of INTCSR and flag 21 of AINT go up and nothing else changes; it answers the address of the cycle, no data, no enables,
+-- `aborted`: by code 13 flag 20 of INTCSR and flag 21 of AINT go up, both rights end and nothing else changes; it answers the address of the cycle, no data, no enables,
 -- and both lines 1
 abbrev pub Aborted : Type 0
 Aborted =

@@ -1,13 +1,16 @@
 // The code of a step, in parts: of the form, of a read or a write, of a cycle. Nothing is changed here.
 ghost use mathlib.Core.Path.{_≡_};
-ghost use mathlib.Core.List.{List};
-ghost use Prim.Native.Nat.{ℕ, _<_};
+ghost use mathlib.Core.Bool.{not};
+ghost use mathlib.Core.List.{List, [], _∷_};
+ghost use Prim.Native.Nat.{ℕ, _%_, _<_};
+ghost use lib.Dec.{eqb, ltb};
 ghost use lib.ListN.{length};
 ghost use Rattle.machine.specs.Sides as sides;
 ghost use Rattle.machine.specs.Access.{accessOf};
 ghost use Rattle.machine.specs.Offsets.{inTable, isReadOnly};
 ghost use Rattle.machine.specs.Window.{inside, isWindowOutOfForm};
-ghost use Rattle.machine.specs.Code.{anyOf, laneFaults, isUnknownOffset, isReadOnlyWrite, isFullOrEmpty};
+ghost use Rattle.machine.specs.Words.{anyOf};
+ghost use Rattle.machine.specs.Code.{isUnknownOffset, isReadOnlyWrite, isFullOrEmpty};
 ghost use Rattle.bank.specs.Bank.{stateIn};
 ghost use Rattle.refusal.specs.Codes.{accessCode, cycleCode, formCode};
 use bank::Bank;
@@ -23,11 +26,11 @@ use machine::offsets;
 // The most words that a window may have.
 const WINDOW_MAX: usize = 16384;
 
-// Code 1, of a lane.
-fn is_lane_out_of_form(fill: WordFill, address: u32, count: ByteCount) -> bool
-    ensures { λ r. ⌜ ((words : List ℕ) → length words ≡ fill .0 → r ≡ anyOf (laneFaults (record { words = words; address = address; count = count .0 }))) ⌝ }
+// Code 1, of a lane, and whether its right stands together with an end of it.
+fn is_lane_out_of_form(fill: WordFill, address: u32, count: ByteCount, wrong: bool) -> bool
+    ensures { λ r. ⌜ r ≡ anyOf (ltb 8 (fill .0) ∷ not (eqb (address % 4) 0) ∷ ltb 0x03FF_FFFF (count .0) ∷ wrong ∷ []) ⌝ }
 {
-    fifo::is_out_of_form(fill) | (address % WORD_BYTES != 0) | count::is_out_of_form(count)
+    fifo::is_out_of_form(fill) | (address % WORD_BYTES != 0) | count::is_out_of_form(count) | wrong
 }
 
 // Code 2, window out of form.
@@ -44,8 +47,10 @@ pub fn form(b: Bank, start: u32, words: usize) -> u32
     let i = word::is_only(interrupts::KEPT | interrupts::INTCSR_FLAGS, b.intcsr);
     let m = word::is_only(mcsr::KEPT, b.mcsr);
     let n = word::is_only(interrupts::KEPT | interrupts::AINT_FLAGS, b.aint);
-    let p = is_lane_out_of_form(b.pci_fill, b.read_address, b.read_count);
-    let a = is_lane_out_of_form(b.addon_fill, b.write_address, b.write_count);
+    let read = b.read_right & rights::is_read_ended(b);
+    let write = b.write_right & rights::is_write_ended(b);
+    let p = is_lane_out_of_form(b.pci_fill, b.read_address, b.read_count, read);
+    let a = is_lane_out_of_form(b.addon_fill, b.write_address, b.write_count, write);
     if p | a | !i | !m | !n {
         return codes::STATE_OUT_OF_FORM;
     }
@@ -159,7 +164,7 @@ pub fn write_cycle_code(b: Bank, start: u32, words: usize) -> u32
     if interrupts::is_abort_in(b.intcsr) {
         return codes::ABORT_STANDS;
     }
-    let four = word::bit(b.mcsr, mcsr::WRITE_FOUR);
+    let four = word::bit(b.mcsr, mcsr::WRITE_FOUR) & !b.write_right;
     if !fifo::has_words(b.addon_fill, four) {
         return codes::FIFO_NOT_READY;
     }
@@ -182,7 +187,7 @@ pub fn read_cycle_code(b: Bank, start: u32, words: usize) -> u32
     if interrupts::is_abort_in(b.intcsr) {
         return codes::ABORT_STANDS;
     }
-    let four = word::bit(b.mcsr, mcsr::READ_FOUR);
+    let four = word::bit(b.mcsr, mcsr::READ_FOUR) & !b.read_right;
     if !fifo::has_room(b.pci_fill, four) {
         return codes::FIFO_NOT_READY;
     }

@@ -1,4 +1,4 @@
-// States, windows and numbers that frames cannot reach. Each line of standard input is a case in 41 numbers of 8 hexadecimal
+// States, windows and numbers that frames cannot reach. Each line of standard input is a case in 43 numbers of 8 hexadecimal
 // digits: the state, the window and the step; see `tests/second/cases`. For each it writes the log line of the step, and a
 // line of numbers: the state left, the first word of memory that the step changed, if any, and the marks that it changed.
 use controller::ByteCount;
@@ -40,8 +40,8 @@ fn fields(line: &[u8], k: usize) -> [u32; 8] {
     ]
 }
 
-// A lane from number k on: fill, eight words, address, count.
-fn lane(line: &[u8], k: usize) -> Lane {
+// A lane from number k on: fill, eight words, address, count; and its right, number r.
+fn lane(line: &[u8], k: usize, r: usize) -> Lane {
     let j = k % 64;
     let words = fields(line, j + 1);
     let fifo = Fifo {
@@ -53,13 +53,14 @@ fn lane(line: &[u8], k: usize) -> Lane {
         fifo,
         address: field(line, j + 9),
         count: ByteCount(field(line, j + 10)),
+        right: field(line, r) != 0,
     }
 }
 
 fn controller(line: &[u8]) -> Controller {
     let mail = fields(line, 0);
-    let from_pci = lane(line, 9);
-    let from_addon = lane(line, 20);
+    let from_pci = lane(line, 9, 35);
+    let from_addon = lane(line, 20, 34);
     Controller {
         mail,
         marks: field(line, 8),
@@ -149,12 +150,16 @@ fn write_state(c: Controller) {
     write_words(mail);
     write_number(c.marks);
     let from_pci = c.from_pci;
+    let read_right = from_pci.right;
     write_lane(from_pci);
     let from_addon = c.from_addon;
+    let write_right = from_addon.right;
     write_lane(from_addon);
     write_number(c.intcsr);
     write_number(c.mcsr);
     write_number(c.aint);
+    write_number(if write_right { 1 } else { 0 });
+    write_number(if read_right { 1 } else { 0 });
 }
 
 // Where the memory changed and to what; all ones and zero where it did not.
@@ -177,18 +182,18 @@ fn write_answer(a: Answer) {
 
 fn step_in(line: &[u8]) -> Step {
     Step {
-        kind: field(line, 37),
-        offset: field(line, 38),
-        enables: field(line, 39),
-        value: field(line, 40),
+        kind: field(line, 39),
+        offset: field(line, 40),
+        enables: field(line, 41),
+        value: field(line, 42),
     }
 }
 
 // One case over its window.
 fn run_case(line: &[u8], window: &mut [u32]) {
-    let base = field(line, 36);
+    let base = field(line, 38);
     filled(window, base);
-    let r = step::step(controller(line), window, field(line, 34), step_in(line));
+    let r = step::step(controller(line), window, field(line, 36), step_in(line));
     let a = r.answer;
     let c = r.controller;
     write_answer(a);
@@ -200,7 +205,7 @@ fn run_case(line: &[u8], window: &mut [u32]) {
 
 // The window has as many words as the case says, if there are so many.
 fn run_line(line: &[u8], memory: &mut [u32]) {
-    let words = field(line, 35) as usize;
+    let words = field(line, 37) as usize;
     if words <= memory.len() {
         run_case(line, &mut memory[..words]);
     }

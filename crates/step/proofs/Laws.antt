@@ -1,7 +1,7 @@
 -- What the proofs of a banked step need of the machine's rules.
 use Prim.Native.Nat.{ℕ, suc, _-_, _<_}
-use mathlib.Core.Path.{_≡_, refl, _∙_}
-use mathlib.Core.Bool.{Bool, true, false, cond, _&&_, and-false}
+use mathlib.Core.Path.{_≡_, refl, sym, _∙_}
+use mathlib.Core.Bool.{Bool, true, false, cond, not, _&&_, _||_, and-false, true≢false}
 use mathlib.Core.List.{List, [], _∷_, _++_}
 use native.Mathlib.Omega.{arith}
 use lib.Bits.{bitXor, xor-zero-r}
@@ -15,28 +15,66 @@ use Rattle.machine.specs.Words.{raised, shown, written}
 use Rattle.machine.specs.Commands.{clearsFifo}
 use Rattle.fifo.specs.Ring.{from}
 use Rattle.machine.specs.Sides.{Side, pci, addon, other, Party, host, card}
-use Rattle.machine.specs.State.{State, held}
+use Rattle.machine.specs.State.{State, held, resetState}
 use Rattle.machine.specs.Offsets.{isMailbox, fifoPort, inTable}
 use Rattle.machine.specs.Access.{Access, writing, isReset, cycles, accessOf, reads, writes}
 use Rattle.machine.specs.Mailboxes.{changes, marksAfter, mailAfter}
 use Rattle.machine.specs.Mcsr.{mcsrAfter}
-use Rattle.machine.specs.Cycles.{addressKept, countKept, addressAfter, countAfter}
+use Rattle.machine.specs.Cycles.{addressKept, countKept, addressAfter, countAfter, rightAfter}
 use Rattle.machine.specs.Interrupts.{interruptsWritten, outgoingEvent, incomingEvent, notified, interruptsAfter}
+use Rattle.machine.specs.Rights.{settled}
 use Rattle.machine.specs.Fifos.{isFull, front}
 use Rattle.machine.specs.Code.{stepTests, isUnknownOffset, isPortStuck, isFullOrEmpty}
 use Rattle.machine.specs.declared.Step.{Step}
 use Rattle.machine.specs.declared.Answer.{Answer}
 use Rattle.refusal.specs.Codes.{accessCode}
+use Rattle.step.specs.Parts.{settledOutcome}
 use Rattle.fifo.proofs.Ring.{length-from}
 use Rattle.bank.specs.declared.Bank.{Bank}
 use Rattle.bank.specs.Bank.{stateIn}
-use Rattle.machine.specs.Step.{Reply, nothing, showing, register, readValue, doneReply, doneState, replyOf, answered, stateAfter, memoryAfter, respond}
+use Rattle.machine.specs.Step.{Reply, nothing, showing, register, readValue, doneReply, movedState, doneState, replyOf, answered, stateAfter, memoryAfter, respond}
 
 -- a refusal: the state and the memory stay
 pub refusal : (st : State) (start : ℕ) (memory : List ℕ) (x : Access) (code : ℕ) → (code ≡ 0 → ⊥) → code < 13
     → record { state = st; memory = memory; answer = answered st code nothing } ≡ respond st start memory x code
 unfolding respond replyOf stateAfter memoryAfter
 refusal st start memory x code other h = simp (ne-eqb code 0 other, ne-eqb code 13 (λ e. omega arith))
+
+-- what is not done has no right to end
+pub not-done : (st : State) (memory : List ℕ) (code : ℕ) (reply : Reply) → (code ≡ 0 → ⊥)
+    → settledOutcome (record { state = st; memory = memory; answer = answered st code reply }) ≡ record { state = st; memory = memory; answer = answered st code reply }
+unfolding answered settledOutcome
+not-done st memory code reply other = rw (ne-eqb code 0 other)
+
+pub refused : (st : State) (start : ℕ) (memory : List ℕ) (x : Access) (code : ℕ) → (code ≡ 0 → ⊥) → code < 13
+    → settledOutcome (record { state = st; memory = memory; answer = answered st code nothing }) ≡ respond st start memory x code
+refused st start memory x code other h = not-done st memory code nothing other ∙ refusal st start memory x code other h
+
+-- nor has a state without one
+neither-stands : (a b : Bool) → not (a || b) ≡ true → (a ≡ false) × (b ≡ false)
+neither-stands true b e = absurd (true≢false (sym e))
+neither-stands false true e = absurd (true≢false (sym e))
+neither-stands false false e = (refl, refl)
+
+pub none-stands : (b : Bank) (mail places behind memory : List ℕ) (answer : Answer) → not (b .«read_right» || b .«write_right») ≡ true
+    → record { state = stateIn b mail places behind; memory = memory; answer = answer } ≡ settledOutcome (record { state = stateIn b mail places behind; memory = memory; answer = answer })
+unfolding stateIn settled settledOutcome
+none-stands b mail places behind memory answer h = λ i. record { state = by (eqb (answer .code) 0) i; memory = memory; answer = answer }
+  where
+    none : (b .«read_right» ≡ false) × (b .«write_right» ≡ false)
+    none = neither-stands (b .«read_right») (b .«write_right») h
+
+    same : settled (stateIn b mail places behind) ≡ stateIn b mail places behind
+    same = rw (none .0, none .1)
+
+    by : (d : Bool) → stateIn b mail places behind ≡ cond d (settled (stateIn b mail places behind)) (stateIn b mail places behind)
+    by true = sym same
+    by false = refl
+
+-- nor has what a reset leaves
+pub settled-reset : (memory : List ℕ) → settledOutcome (record { state = resetState; memory = memory; answer = answered resetState 0 nothing }) ≡ record { state = resetState; memory = memory; answer = answered resetState 0 nothing }
+unfolding answered settled settledOutcome
+settled-reset memory = refl
 
 -- ---- code 8: a port that is read holds a word, a port that is written has room
 
@@ -82,47 +120,47 @@ one-more-in n m e h = e ∙ rw (lt-ltb n 8 h)
 -- ---- done steps that are no reset
 
 pub done-step : (st : State) (start : ℕ) (memory : List ℕ) (x : Access) (code : ℕ) (after : State) (reply : Reply) (answer : Answer)
-    → code ≡ 0 → isReset (x .kind) ≡ false → cycles addon (x .kind) ≡ false → reply ≡ doneReply (x .kind) st start memory x → after ≡ doneState st x (reply .value)
-    → answer ≡ answered after 0 reply → record { state = after; memory = memory; answer = answer } ≡ respond st start memory x code
-unfolding respond replyOf stateAfter memoryAfter
-done-step st start memory x code after reply answer zero reset store r a w = rw zero (simp (reset, store, ← r, ← a, w))
+    → code ≡ 0 → isReset (x .kind) ≡ false → cycles addon (x .kind) ≡ false → reply ≡ doneReply (x .kind) st start memory x → after ≡ movedState st x (reply .value)
+    → answer ≡ answered after 0 reply → settledOutcome (record { state = after; memory = memory; answer = answer }) ≡ respond st start memory x code
+unfolding respond replyOf stateAfter memoryAfter doneState answered settled settledOutcome
+done-step st start memory x code after reply answer zero reset store r a w = rw (zero, w) (simp (reset, store, ← r, ← a))
 
 -- accesses away from the FIFO port: what may change, and that nothing else does
 module _ (st : State) (s : Step) (elsewhere : s .offset ≡ 0x20 → ⊥) (word : ℕ) where
   pub pci-read-state : s .kind ≡ 0
-      → record { mail = st .mail; marks = bitXor (st .marks) (changes (accessOf s) (st .marks)); fromPci = st .fromPci; fromAddon = st .fromAddon; intcsr = st .intcsr; mcsr = st .mcsr; aint = notified (st .aint) (changes (accessOf s) (st .marks)) } ≡ doneState st (accessOf s) word
-  unfolding doneState mailAfter marksAfter addressAfter countAfter interruptsAfter mcsrAfter
+      → record { mail = st .mail; marks = bitXor (st .marks) (changes (accessOf s) (st .marks)); fromPci = st .fromPci; fromAddon = st .fromAddon; intcsr = st .intcsr; mcsr = st .mcsr; aint = notified (st .aint) (changes (accessOf s) (st .marks)) } ≡ movedState st (accessOf s) word
+  unfolding movedState mailAfter marksAfter addressAfter countAfter rightAfter interruptsAfter mcsrAfter
   pci-read-state k = rw k (simp (ne-eqb (s .offset) 0x20 elsewhere))
 
   pub addon-read-state : s .kind ≡ 2
-      → record { mail = st .mail; marks = bitXor (st .marks) (changes (accessOf s) (st .marks)); fromPci = st .fromPci; fromAddon = st .fromAddon; intcsr = notified (st .intcsr) (changes (accessOf s) (st .marks)); mcsr = st .mcsr; aint = st .aint } ≡ doneState st (accessOf s) word
-  unfolding doneState mailAfter marksAfter addressAfter countAfter interruptsAfter mcsrAfter
+      → record { mail = st .mail; marks = bitXor (st .marks) (changes (accessOf s) (st .marks)); fromPci = st .fromPci; fromAddon = st .fromAddon; intcsr = notified (st .intcsr) (changes (accessOf s) (st .marks)); mcsr = st .mcsr; aint = st .aint } ≡ movedState st (accessOf s) word
+  unfolding movedState mailAfter marksAfter addressAfter countAfter rightAfter interruptsAfter mcsrAfter
   addon-read-state k = rw k (simp (ne-eqb (s .offset) 0x20 elsewhere))
 
   pub addon-write-state : s .kind ≡ 3
       → record {
         mail = mailAfter (accessOf s) (st .mail);
         marks = marksAfter (accessOf s) (st .marks);
-        fromPci = record { words = cond (clearsFifo pci (accessOf s)) [] (st .fromPci .words); address = st .fromPci .address; count = st .fromPci .count };
-        fromAddon = record { words = cond (clearsFifo addon (accessOf s)) [] (st .fromAddon .words); address = st .fromAddon .address; count = st .fromAddon .count };
+        fromPci = record { words = cond (clearsFifo pci (accessOf s)) [] (st .fromPci .words); address = st .fromPci .address; count = st .fromPci .count; right = cond (clearsFifo pci (accessOf s)) false (st .fromPci .right) };
+        fromAddon = record { words = cond (clearsFifo addon (accessOf s)) [] (st .fromAddon .words); address = st .fromAddon .address; count = st .fromAddon .count; right = cond (clearsFifo addon (accessOf s)) false (st .fromAddon .right) };
         intcsr = notified (st .intcsr) (changes (accessOf s) (st .marks));
         mcsr = st .mcsr;
         aint = cond (eqb (s .offset) 0x38) (interruptsWritten addon (st .aint) (s .value) (s .enables)) (st .aint);
-      } ≡ doneState st (accessOf s) word
-  unfolding doneState addressAfter countAfter interruptsAfter mcsrAfter
+      } ≡ movedState st (accessOf s) word
+  unfolding movedState addressAfter countAfter rightAfter interruptsAfter mcsrAfter
   addon-write-state k = rw k (simp (ne-eqb (s .offset) 0x20 elsewhere))
 
   pub pci-write-state : s .kind ≡ 1
       → record {
         mail = mailAfter (accessOf s) (st .mail);
         marks = marksAfter (accessOf s) (st .marks);
-        fromPci = record { words = cond (clearsFifo pci (accessOf s)) [] (st .fromPci .words); address = cond (eqb (s .offset) 0x2C) (written addressKept (st .fromPci .address) (s .value) (s .enables)) (st .fromPci .address); count = cond (eqb (s .offset) 0x30) (written countKept (st .fromPci .count) (s .value) (s .enables)) (st .fromPci .count) };
-        fromAddon = record { words = cond (clearsFifo addon (accessOf s)) [] (st .fromAddon .words); address = cond (eqb (s .offset) 0x24) (written addressKept (st .fromAddon .address) (s .value) (s .enables)) (st .fromAddon .address); count = cond (eqb (s .offset) 0x28) (written countKept (st .fromAddon .count) (s .value) (s .enables)) (st .fromAddon .count) };
+        fromPci = record { words = cond (clearsFifo pci (accessOf s)) [] (st .fromPci .words); address = cond (eqb (s .offset) 0x2C) (written addressKept (st .fromPci .address) (s .value) (s .enables)) (st .fromPci .address); count = cond (eqb (s .offset) 0x30) (written countKept (st .fromPci .count) (s .value) (s .enables)) (st .fromPci .count); right = cond (clearsFifo pci (accessOf s)) false (st .fromPci .right) };
+        fromAddon = record { words = cond (clearsFifo addon (accessOf s)) [] (st .fromAddon .words); address = cond (eqb (s .offset) 0x24) (written addressKept (st .fromAddon .address) (s .value) (s .enables)) (st .fromAddon .address); count = cond (eqb (s .offset) 0x28) (written countKept (st .fromAddon .count) (s .value) (s .enables)) (st .fromAddon .count); right = cond (clearsFifo addon (accessOf s)) false (st .fromAddon .right) };
         intcsr = cond (eqb (s .offset) 0x38) (interruptsWritten pci (st .intcsr) (s .value) (s .enables)) (st .intcsr);
         mcsr = mcsrAfter (accessOf s) (st .mcsr);
         aint = notified (st .aint) (changes (accessOf s) (st .marks));
-      } ≡ doneState st (accessOf s) word
-  unfolding doneState addressAfter countAfter interruptsAfter
+      } ≡ movedState st (accessOf s) word
+  unfolding movedState addressAfter countAfter rightAfter interruptsAfter
   pci-write-state k = rw k (simp (ne-eqb (s .offset) 0x20 elsewhere))
 
   pub pci-read-reply : (start : ℕ) (memory : List ℕ) → s .kind ≡ 0 → showing (shown (register pci st (s .offset)) (s .enables)) (changes (accessOf s) (st .marks)) ≡ doneReply (accessOf s .kind) st start memory (accessOf s)
@@ -136,23 +174,23 @@ module _ (st : State) (s : Step) (elsewhere : s .offset ≡ 0x20 → ⊥) (word 
 -- accesses at it
 module _ (st : State) (s : Step) (port : s .offset ≡ 0x20) (word : ℕ) where
   pub pci-port-read-state : s .kind ≡ 0
-      → record { mail = st .mail; marks = st .marks; fromPci = st .fromPci; fromAddon = record { words = drop 1 (st .fromAddon .words); address = st .fromAddon .address; count = st .fromAddon .count }; intcsr = st .intcsr; mcsr = st .mcsr; aint = st .aint } ≡ doneState st (accessOf s) word
-  unfolding doneState mailAfter changes marksAfter addressAfter countAfter interruptsAfter notified outgoingEvent incomingEvent raised mcsrAfter
+      → record { mail = st .mail; marks = st .marks; fromPci = st .fromPci; fromAddon = record { words = drop 1 (st .fromAddon .words); address = st .fromAddon .address; count = st .fromAddon .count; right = st .fromAddon .right }; intcsr = st .intcsr; mcsr = st .mcsr; aint = st .aint } ≡ movedState st (accessOf s) word
+  unfolding movedState mailAfter changes marksAfter addressAfter countAfter rightAfter interruptsAfter notified outgoingEvent incomingEvent raised mcsrAfter
   pci-port-read-state k = rw (k, port) (simp (xor-zero-r, bit-zero, and-false))
 
   pub addon-port-read-state : s .kind ≡ 2
-      → record { mail = st .mail; marks = st .marks; fromPci = record { words = drop 1 (st .fromPci .words); address = st .fromPci .address; count = st .fromPci .count }; fromAddon = st .fromAddon; intcsr = st .intcsr; mcsr = st .mcsr; aint = st .aint } ≡ doneState st (accessOf s) word
-  unfolding doneState mailAfter changes marksAfter addressAfter countAfter interruptsAfter notified outgoingEvent incomingEvent raised mcsrAfter
+      → record { mail = st .mail; marks = st .marks; fromPci = record { words = drop 1 (st .fromPci .words); address = st .fromPci .address; count = st .fromPci .count; right = st .fromPci .right }; fromAddon = st .fromAddon; intcsr = st .intcsr; mcsr = st .mcsr; aint = st .aint } ≡ movedState st (accessOf s) word
+  unfolding movedState mailAfter changes marksAfter addressAfter countAfter rightAfter interruptsAfter notified outgoingEvent incomingEvent raised mcsrAfter
   addon-port-read-state k = rw (k, port) (simp (xor-zero-r, bit-zero, and-false))
 
   pub pci-port-write-state : s .kind ≡ 1
-      → record { mail = st .mail; marks = st .marks; fromPci = record { words = st .fromPci .words ++ s .value ∷ []; address = st .fromPci .address; count = st .fromPci .count }; fromAddon = st .fromAddon; intcsr = st .intcsr; mcsr = st .mcsr; aint = st .aint } ≡ doneState st (accessOf s) word
-  unfolding doneState mailAfter changes marksAfter addressAfter countAfter interruptsAfter notified outgoingEvent incomingEvent raised mcsrAfter
+      → record { mail = st .mail; marks = st .marks; fromPci = record { words = st .fromPci .words ++ s .value ∷ []; address = st .fromPci .address; count = st .fromPci .count; right = st .fromPci .right }; fromAddon = st .fromAddon; intcsr = st .intcsr; mcsr = st .mcsr; aint = st .aint } ≡ movedState st (accessOf s) word
+  unfolding movedState mailAfter changes marksAfter addressAfter countAfter rightAfter interruptsAfter notified outgoingEvent incomingEvent raised mcsrAfter
   pci-port-write-state k = rw (k, port) (simp (xor-zero-r, bit-zero, and-false))
 
   pub addon-port-write-state : s .kind ≡ 3
-      → record { mail = st .mail; marks = st .marks; fromPci = st .fromPci; fromAddon = record { words = st .fromAddon .words ++ s .value ∷ []; address = st .fromAddon .address; count = st .fromAddon .count }; intcsr = st .intcsr; mcsr = st .mcsr; aint = st .aint } ≡ doneState st (accessOf s) word
-  unfolding doneState mailAfter changes marksAfter addressAfter countAfter interruptsAfter notified outgoingEvent incomingEvent raised mcsrAfter
+      → record { mail = st .mail; marks = st .marks; fromPci = st .fromPci; fromAddon = record { words = st .fromAddon .words ++ s .value ∷ []; address = st .fromAddon .address; count = st .fromAddon .count; right = st .fromAddon .right }; intcsr = st .intcsr; mcsr = st .mcsr; aint = st .aint } ≡ movedState st (accessOf s) word
+  unfolding movedState mailAfter changes marksAfter addressAfter countAfter rightAfter interruptsAfter notified outgoingEvent incomingEvent raised mcsrAfter
   addon-port-write-state k = rw (k, port) (simp (xor-zero-r, bit-zero, and-false))
 
   pub pci-port-reply : (start : ℕ) (memory : List ℕ) → s .kind ≡ 0 → showing (front (held addon st)) 0 ≡ doneReply (accessOf s .kind) st start memory (accessOf s)

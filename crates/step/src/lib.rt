@@ -10,9 +10,9 @@ ghost use Rattle.machine.specs.State.{resetState};
 ghost use Rattle.machine.specs.Access.{accessOf};
 ghost use Rattle.machine.specs.Offsets.{inTable};
 ghost use Rattle.machine.specs.Mailboxes.{changes, mailAfter};
-ghost use Rattle.machine.specs.Step.{nothing, register, answered, doneState, abortedState};
+ghost use Rattle.machine.specs.Step.{nothing, register, answered, movedState, abortedState};
 ghost use Rattle.bank.specs.Bank.{stateIn};
-ghost use Rattle.step.specs.Parts.{outcomeIn, toldStep, Accessed, Cycled};
+ghost use Rattle.step.specs.Parts.{outcomeIn, settledOutcome, toldStep, Accessed, Cycled};
 ghost use Rattle.step.specs.InBank.{InBank};
 ghost use Rattle.step.specs.Unique.{StepPromised};
 use bank::Bank;
@@ -61,7 +61,7 @@ fn answered(b: Bank, code: u32, address: u32, value: u32, enables: u32, changed:
     Banked { bank: b, answer }
 }
 
-// Code 13: the abort flags are set, and the address answered.
+// Code 13: the abort flags are set, which ends both rights, and the address answered.
 fn aborted(b: Bank, address: u32) -> Banked
     ensures { λ r. ⌜ ((mail pci addon : List ℕ) → (stateIn (r .bank) mail pci addon ≡ abortedState (stateIn b mail pci addon)) × (r .answer ≡ answered (abortedState (stateIn b mail pci addon)) 13 (record { address = address; value = 0; enables = 0; changed = 0 }))) ⌝ }
 {
@@ -70,6 +70,8 @@ fn aborted(b: Bank, address: u32) -> Banked
     let mut next = b;
     next.intcsr = i;
     next.aint = a;
+    next.read_right = false;
+    next.write_right = false;
     answered(next, codes::NO_MEMORY_THERE, address, 0, 0, 0)
 }
 
@@ -177,7 +179,7 @@ fn operation_write(b: Bank, s: Step, changed: u32) -> Bank
     requires { ⌜ s .kind ≡ 1 ⌝ }
     requires { ⌜ (s .offset ≡ 0x20 → ⊥) ⌝ }
     requires { ⌜ changed ≡ changes (accessOf s) (b .marks) ⌝ }
-    ensures { λ r. ⌜ ((mail pci addon : List ℕ) (word : ℕ) → stateIn r (mailAfter (accessOf s) mail) pci addon ≡ doneState (stateIn b mail pci addon) (accessOf s) word) ⌝ }
+    ensures { λ r. ⌜ ((mail pci addon : List ℕ) (word : ℕ) → stateIn r (mailAfter (accessOf s) mail) pci addon ≡ movedState (stateIn b mail pci addon) (accessOf s) word) ⌝ }
 {
     let marks = mailboxes::marks_after(s, b.marks);
     let read_address = address::written(offsets::READ_ADDRESS, s, b.read_address);
@@ -187,8 +189,12 @@ fn operation_write(b: Bank, s: Step, changed: u32) -> Bank
     let intcsr = interrupts::intcsr_written(b.intcsr, s);
     let mcsr = mcsr::mcsr_after(s, b.mcsr);
     let aint = interrupts::notified(b.aint, changed);
-    let pci_fill = fifo::left(commands::clears_from_pci(s), b.pci_fill);
-    let addon_fill = fifo::left(commands::clears_from_addon(s), b.addon_fill);
+    let pci_cleared = commands::clears_from_pci(s);
+    let addon_cleared = commands::clears_from_addon(s);
+    let pci_fill = fifo::left(pci_cleared, b.pci_fill);
+    let addon_fill = fifo::left(addon_cleared, b.addon_fill);
+    let read_right = rights::kept(pci_cleared, b.read_right);
+    let write_right = rights::kept(addon_cleared, b.write_right);
     let pci_head = b.pci_head;
     let addon_head = b.addon_head;
     Bank {
@@ -198,10 +204,12 @@ fn operation_write(b: Bank, s: Step, changed: u32) -> Bank
         aint,
         read_address,
         read_count,
+        read_right,
         pci_head,
         pci_fill,
         write_address,
         write_count,
+        write_right,
         addon_head,
         addon_fill,
     }
@@ -252,17 +260,23 @@ fn addon_write(b: Bank, mail: &mut [u32], addon: &mut [u32], s: Step) -> Banked
     let m = mailboxes::marks_after(s, b.marks);
     let i = interrupts::notified(b.intcsr, changed);
     let a = interrupts::aint_written(b.aint, s);
-    let p = fifo::left(commands::clears_from_pci(s), b.pci_fill);
-    let n = fifo::left(commands::clears_from_addon(s), b.addon_fill);
+    let pci_cleared = commands::clears_from_pci(s);
+    let addon_cleared = commands::clears_from_addon(s);
+    let p = fifo::left(pci_cleared, b.pci_fill);
+    let n = fifo::left(addon_cleared, b.addon_fill);
+    let read_right = rights::kept(pci_cleared, b.read_right);
+    let write_right = rights::kept(addon_cleared, b.write_right);
     next.marks = m;
     next.intcsr = i;
     next.aint = a;
     next.pci_fill = p;
     next.addon_fill = n;
+    next.read_right = read_right;
+    next.write_right = write_right;
     answered(next, codes::DONE, 0, 0, 0, changed)
 }
 
-// A write cycle: the front word of the FIFO from the Add-On goes to the memory.
+// A write cycle: the front word of the FIFO from the Add-On goes to the memory. Done where MCSR asks for four, it had them or the right.
 fn write_cycle(b: Bank, addon: &[u32], memory: &mut [u32], start: u32) -> Banked
     ensures { λ r. ⌜ ((mail pci : List ℕ) → Cycled sides.addon (stateIn b mail pci (now (addon .entry))) start (now (memory .entry)) (outcomeIn r mail pci (now (addon .entry)) (now (memory .exit)))) ⌝ }
 {
@@ -284,17 +298,20 @@ fn write_cycle(b: Bank, addon: &[u32], memory: &mut [u32], start: u32) -> Banked
     let a = interrupts::after_write_cycle(b.aint, b.write_count);
     let less = count::count_left(b.write_count);
     let on = address::next_address(address);
+    let four = word::bit(b.mcsr, mcsr::WRITE_FOUR);
+    let right = b.write_right | four;
     let mut next = b;
     next.addon_head = h;
     next.addon_fill = n;
     next.write_address = on;
     next.write_count = less;
+    next.write_right = right;
     next.intcsr = i;
     next.aint = a;
     answered(next, codes::DONE, address, x, e, 0)
 }
 
-// A read cycle: a word of the memory goes into the FIFO from PCI.
+// A read cycle: a word of the memory goes into the FIFO from PCI; its right likewise.
 fn read_cycle(b: Bank, pci: &mut [u32], memory: &[u32], start: u32) -> Banked
     requires { ⌜ length (now pci) ≡ 8 ⌝ }
     ensures { λ r. ⌜ ((mail addon : List ℕ) → Cycled sides.pci (stateIn b mail (now (pci .entry)) addon) start (now (memory .entry)) (outcomeIn r mail (now (pci .exit)) addon (now (memory .entry)))) ⌝ }
@@ -316,10 +333,13 @@ fn read_cycle(b: Bank, pci: &mut [u32], memory: &[u32], start: u32) -> Banked
     let a = interrupts::after_read_cycle(b.aint, b.read_count);
     let less = count::count_left(b.read_count);
     let on = address::next_address(address);
+    let four = word::bit(b.mcsr, mcsr::READ_FOUR);
+    let right = b.read_right | four;
     let mut next = b;
     next.pci_fill = n;
     next.read_address = on;
     next.read_count = less;
+    next.read_right = right;
     next.intcsr = i;
     next.aint = a;
     answered(next, codes::DONE, address, x, e, 0)
@@ -345,10 +365,12 @@ fn reset(mail: &mut [u32]) -> Banked
         aint: 0,
         read_address: 0,
         read_count: ByteCount(0),
+        read_right: false,
         pci_head: 0,
         pci_fill: WordFill(0),
         write_address: 0,
         write_count: ByteCount(0),
+        write_right: false,
         addon_head: 0,
         addon_fill: WordFill(0),
     };
@@ -357,7 +379,7 @@ fn reset(mail: &mut [u32]) -> Banked
 
 // ---- the step
 
-// A step on words of the lengths that they must have, by the code of form that it is told.
+// A step on words of the lengths that they must have, by the code of form that it is told, before rights end.
 fn by_kind(
     b: Bank,
     mail: &mut [u32],
@@ -369,7 +391,7 @@ fn by_kind(
     s: Step,
 ) -> Banked
     requires { ⌜ (length (now mail) ≡ 8) × ((length (now pci) ≡ 8) × (length (now addon) ≡ 8)) ⌝ }
-    ensures { λ r. ⌜ outcomeIn r (now (mail .exit)) (now (pci .exit)) (now (addon .exit)) (now (memory .exit)) ≡ toldStep form (stateIn b (now (mail .entry)) (now (pci .entry)) (now (addon .entry))) start (now (memory .entry)) s ⌝ }
+    ensures { λ r. ⌜ settledOutcome (outcomeIn r (now (mail .exit)) (now (pci .exit)) (now (addon .exit)) (now (memory .exit))) ≡ toldStep form (stateIn b (now (mail .entry)) (now (pci .entry)) (now (addon .entry))) start (now (memory .entry)) s ⌝ }
 {
     if form != codes::DONE {
         return answered(b, form, 0, 0, 0, 0);
@@ -385,6 +407,22 @@ fn by_kind(
         6 => reset(mail),
         _ => answered(b, codes::UNKNOWN_STEP, 0, 0, 0, 0),
     }
+}
+
+// What is left once rights have ended that met an end, if the step is done. Mostly none stands.
+fn settled(r: Banked) -> Banked
+    ensures { λ q. ⌜ ((mail pci addon memory : List ℕ) → outcomeIn q mail pci addon memory ≡ settledOutcome (outcomeIn r mail pci addon memory)) ⌝ }
+{
+    let b = r.bank;
+    if !(b.read_right | b.write_right) {
+        return r;
+    }
+    let answer = r.answer;
+    if answer.code != codes::DONE {
+        return r;
+    }
+    let bank = rights::settled(b);
+    Banked { bank, answer }
 }
 
 // One step: by `form`, a caller asks `refusal::form` once for many steps. Words of another length than eight are a state out of form.
@@ -409,7 +447,8 @@ pub fn in_bank(
     if addon.len() != RUN {
         return answered(b, codes::STATE_OUT_OF_FORM, 0, 0, 0, 0);
     }
-    by_kind(b, mail, pci, addon, memory, start, form, s)
+    let r = by_kind(b, mail, pci, addon, memory, start, form, s);
+    settled(r)
 }
 
 // One step: every controller, memory, start and numbers have an answer, and a refusal leaves the controller as it was.

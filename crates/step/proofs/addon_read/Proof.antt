@@ -6,7 +6,7 @@ use Rattle.machine.specs.Step.{showing}
 use Rattle.refusal.specs.Codes.{accessCode}
 use Rattle.bank.specs.Bank.{stateIn}
 use Rattle.fifo.proofs.Ring.{from-front, from-pop}
-use Rattle.step.proofs.Laws.{read-in-table, refusal, done-step, addon-port-read, addon-port-read-state, addon-port-reply, addon-read-state, addon-read-reply}
+use Rattle.step.proofs.Laws.{read-in-table, refused, done-step, addon-port-read, addon-port-read-state, addon-port-reply, addon-read-state, addon-read-reply}
 use borrow.Author.Needs.{needs}
 use Rattle.step.proofs.addon_read.Statement.{statement}
 use Rattle.step.proofs.addon_read.Tie as tie
@@ -16,7 +16,7 @@ returns c = λ addon start memory.
     let a = c .before .before .before .before .before .args in
     let code = c .before .before .access-code in
     rw (c .answered .ensures .0, c .answered .ensures .1 (now (a .mail)) (now (a .pci)) addon, ← code .ensures .1 (now (a .mail)) (now (a .pci)) addon)
-    (refusal (stateIn (a .b) (now (a .mail)) (now (a .pci)) addon) start memory (accessOf (a .s)) (code .result) (c .before .if1 .taken) (code .ensures .0))
+    (refused (stateIn (a .b) (now (a .mail)) (now (a .pci)) addon) start memory (accessOf (a .s)) (code .result) (c .before .if1 .taken) (code .ensures .0))
 
 returns-2 : tie.Need-returns-2
 unfolding stateIn

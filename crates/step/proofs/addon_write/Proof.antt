@@ -10,7 +10,7 @@ use Rattle.machine.specs.Sides as sides
 use Rattle.machine.specs.Sides.{card}
 use Rattle.machine.specs.Commands.{clearsFifo}
 use Rattle.fifo.specs.Ring.{from}
-use Rattle.step.proofs.Laws.{refusal, done-step, one-more-in, addon-port-write, addon-port-write-state, write-reply, port-write-reply, addon-write-state, cleared-words}
+use Rattle.step.proofs.Laws.{refused, done-step, one-more-in, addon-port-write, addon-port-write-state, write-reply, port-write-reply, addon-write-state, cleared-words}
 use borrow.Author.Needs.{needs}
 use Rattle.step.proofs.addon_write.Statement.{statement}
 use Rattle.step.proofs.addon_write.Tie as tie
@@ -20,7 +20,7 @@ returns c = λ pci start memory.
     let a = c .before .before .before .before .before .args in
     let code = c .before .before .access-code in
     rw (c .answered .ensures .0, c .answered .ensures .1 (now (a .mail)) pci (now (a .addon)), ← code .ensures .1 (now (a .mail)) pci (now (a .addon)))
-    (refusal (stateIn (a .b) (now (a .mail)) pci (now (a .addon))) start memory (accessOf (a .s)) (code .result) (c .before .if1 .taken) (code .ensures .0))
+    (refused (stateIn (a .b) (now (a .mail)) pci (now (a .addon))) start memory (accessOf (a .s)) (code .result) (c .before .if1 .taken) (code .ensures .0))
 
 returns-2 : tie.Need-returns-2
 unfolding stateIn
@@ -42,23 +42,28 @@ returns-2 c = λ pci start memory.
 returns-3 : tie.Need-returns-3
 unfolding stateIn
 returns-3 c = λ pci start memory.
-    let a = c .before .before .before .before .before .before .before .before .before .before .before .before .before .before .before .before .before .before .before .args in
+    let l = c .before .before .before in
+    let d = l .before .before in
+    let n = d .before .before in
+    let g = n .before .before .before .before .before .before .before .before in
+    let a = g .before .before .before .before .before .before .args in
     let b = a .b in
     let x = accessOf (a .s) in
-    let k = c .before .before .before .before .before .before .before .before .before .before .before .before .before .before .before .before .before .before .before .pre .0 in
-    let code = c .before .before .before .before .before .before .before .before .before .before .before .before .before .before .before .before .access-code in
+    let k = g .before .before .before .before .before .before .pre .0 in
+    let code = g .before .before .before .access-code in
     let st = stateIn b (now (a .mail)) pci (now (a .addon)) in
-    let p : from 8 0 pci (b .«pci_head») (c .before .before .before .left .result .0) ≡ cond (clearsFifo sides.pci x) [] (from 8 0 pci (b .«pci_head») (b .«pci_fill» .0)) =
-    rw (c .before .before .before .left .ensures, c .before .before .before .before .clears-from-pci .ensures) (cleared-words (clearsFifo sides.pci x) pci (b .«pci_head») (b .«pci_fill» .0)) in
-    let q : from 8 0 (now (a .addon)) (b .«addon_head») (c .before .left2 .result .0) ≡ cond (clearsFifo sides.addon x) [] (from 8 0 (now (a .addon)) (b .«addon_head») (b .«addon_fill» .0)) =
-    rw (c .before .left2 .ensures, c .before .before .clears-from-addon .ensures) (cleared-words (clearsFifo sides.addon x) (now (a .addon)) (b .«addon_head») (b .«addon_fill» .0)) in
+    let stored = n .before .before .before .before .before .before .store in
+    let p : from 8 0 pci (b .«pci_head») (l .before .left .result .0) ≡ cond (clearsFifo sides.pci x) [] (from 8 0 pci (b .«pci_head») (b .«pci_fill» .0)) =
+    rw (l .before .left .ensures, d .before .clears-from-pci .ensures) (cleared-words (clearsFifo sides.pci x) pci (b .«pci_head») (b .«pci_fill» .0)) in
+    let q : from 8 0 (now (a .addon)) (b .«addon_head») (l .left2 .result .0) ≡ cond (clearsFifo sides.addon x) [] (from 8 0 (now (a .addon)) (b .«addon_head») (b .«addon_fill» .0)) =
+    rw (l .left2 .ensures, d .clears-from-addon .ensures) (cleared-words (clearsFifo sides.addon x) (now (a .addon)) (b .«addon_head») (b .«addon_fill» .0)) in
     rw (c .answered3 .ensures .0)
-    (done-step st start memory x (accessCode st x) _ (showing 0 (c .before .before .before .before .before .before .before .before .changes .result)) _
-    (sym (code .ensures .1 (now (a .mail)) pci (now (a .addon))) ∙ c .before .before .before .before .before .before .before .before .before .before .before .before .before .before .before .if1 .left)
+    (done-step st start memory x (accessCode st x) _ (showing 0 (n .before .before .before .changes .result)) _
+    (sym (code .ensures .1 (now (a .mail)) pci (now (a .addon))) ∙ g .before .before .if1 .left)
     (rw k) (rw k)
-    (rw (c .before .before .before .before .before .before .before .before .changes .ensures) (write-reply st start memory x card (rw k)))
-    (rw (p, q, c .before .before .before .before .before .aint-written .ensures, c .before .before .before .before .before .before .notified .ensures, c .before .before .before .before .before .before .before .marks-after .ensures, c .before .before .before .before .before .before .before .before .changes .ensures, c .before .before .before .before .before .before .before .before .before .before .before .store .ensures) (addon-write-state st (a .s) (c .before .before .before .before .before .before .before .before .before .before .before .before .before .if2 .left) 0 k))
-    (c .answered3 .ensures .1 (c .before .before .before .before .before .before .before .before .before .before .before .store .last .0) pci (now (a .addon))))
+    (rw (n .before .before .before .changes .ensures) (write-reply st start memory x card (rw k)))
+    (rw (p, q, c .before .kept2 .ensures, d .clears-from-addon .ensures, c .before .before .kept .ensures, d .before .clears-from-pci .ensures, n .aint-written .ensures, n .before .notified .ensures, n .before .before .marks-after .ensures, n .before .before .before .changes .ensures, stored .ensures) (addon-write-state st (a .s) (g .if2 .left) 0 k))
+    (c .answered3 .ensures .1 (stored .last .0) pci (now (a .addon))))
 
 pub addon-write-spec : {M : Type 1} → statement M
 addon-write-spec =
@@ -82,5 +87,7 @@ addon-write-spec =
     (λ c κs. search needs)
     (λ c κs. search needs)
     (λ c κs. search needs)
-    (λ c. search needs)
+    (λ c κs. search needs)
+    (λ c κs. search needs)
+    (λ c. c .before .before .before .before .before .before .before .before .before .before .before .before .before .store .kept .0)
     returns-3)

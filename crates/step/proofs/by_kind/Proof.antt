@@ -6,9 +6,10 @@ use Rattle.machine.specs.Sides.{pci, addon}
 use Rattle.machine.specs.Access.{accessOf}
 use Rattle.laws.proofs.Below.{none-below}
 use Rattle.bank.specs.Bank.{stateIn}
-use Rattle.step.proofs.Laws.{refusal}
+use Rattle.step.proofs.Laws.{not-done, refused, settled-reset}
 use Rattle.step.proofs.Codes.{code-of-access, code-of-cycle, code-of-reset, code-of-unknown, reset-step}
-use Rattle.step.specs.Parts.{toldStep}
+use Rattle.machine.specs.Step.{nothing}
+use Rattle.step.specs.Parts.{settledOutcome, toldStep}
 use borrow.Author.Needs.{needs}
 use borrow.Author.Tests.{ne-eqb}
 use Rattle.step.proofs.by_kind.Statement.{statement}
@@ -19,6 +20,7 @@ unfolding toldStep
 returns c =
     let a = c .before .before .before .before .before .before .args in
     rw (c .answered .ensures .0, c .answered .ensures .1 (now (a .mail)) (now (a .pci)) (now (a .addon)), ne-eqb (a .form) 0 (c .before .if1 .taken))
+    (not-done (stateIn (a .b) (now (a .mail)) (now (a .pci)) (now (a .addon))) (now (a .memory)) (a .form) nothing (c .before .if1 .taken))
 
 pci-read-requires : tie.Need-pci-read-requires
 pci-read-requires c κs = c .before .before .match .keys1
@@ -92,7 +94,7 @@ returns-8 c =
     let k = c .before .before .before .before .match .keys7 in
     let fresh = c .before .before .reset .ensures (now (a .pci)) (now (a .addon)) in
     rw (c .before .before .before .before .before .if1 .left, code-of-reset st (a .start) (length (now (a .memory))) (a .s) k)
-    ((λ i. record { state = fresh .0 i; memory = now (a .memory); answer = fresh .1 i }) ∙ reset-step st (a .start) (now (a .memory)) (a .s) k)
+    ((λ i. settledOutcome (record { state = fresh .0 i; memory = now (a .memory); answer = fresh .1 i })) ∙ settled-reset (now (a .memory)) ∙ reset-step st (a .start) (now (a .memory)) (a .s) k)
 
 returns-9 : tie.Need-returns-9
 unfolding toldStep
@@ -100,7 +102,7 @@ returns-9 c =
     let a = c .before .before .before .before .before .before .before .args in
     let st = stateIn (a .b) (now (a .mail)) (now (a .pci)) (now (a .addon)) in
     rw (c .answered2 .ensures .0, c .answered2 .ensures .1 (now (a .mail)) (now (a .pci)) (now (a .addon)), c .before .before .if1 .left, code-of-unknown st (a .start) (length (now (a .memory))) (a .s) (none-below 7 _ (c .before .match .rest)))
-    (refusal st (a .start) (now (a .memory)) (accessOf (a .s)) 3 (λ e. omega arith) (omega arith))
+    (refused st (a .start) (now (a .memory)) (accessOf (a .s)) 3 (λ e. omega arith) (omega arith))
 
 pub by-kind-spec : {M : Type 1} → statement M
 by-kind-spec =

@@ -1,5 +1,5 @@
 use denote.Ref.{now}
-use mathlib.Core.Path.{refl}
+use mathlib.Core.Path.{refl, _∙_}
 use borrow.Author.Needs.{needs}
 use Rattle.step.proofs.in_bank.Statement.{statement}
 use Rattle.step.proofs.in_bank.Tie as tie
@@ -27,12 +27,12 @@ returns-3 c =
 
 returns-4 : tie.Need-returns-4
 returns-4 c =
-    let k = c .before .before .before .before .before .before .before .before in
+    let k = c .before .before .before .before .before .before .before .before .before in
     let t = k .before .before .before .before .before in
     record {
-      outcome = λ whole. k .by-kind .ensures;
+      outcome = λ whole. c .settled .ensures _ _ _ _ ∙ k .by-kind .ensures;
       refused = λ part. absurd (part (t .before .before .if1 .left, (t .before .if2 .left, t .if3 .left)));
     }
 
 pub in-bank-spec : {M : Type 1} → statement M
-in-bank-spec = tie.close (tie.spec (λ c κs. search needs) returns (λ c κs. search needs) returns-2 (λ c κs. search needs) returns-3 (λ c κs. search needs) (λ c. search needs) (λ c. search needs) (λ c. search needs) (λ c. search needs) returns-4)
+in-bank-spec = tie.close (tie.spec (λ c κs. search needs) returns (λ c κs. search needs) returns-2 (λ c κs. search needs) returns-3 (λ c κs. search needs) (λ c κs. search needs) (λ c. search needs) (λ c. search needs) (λ c. search needs) (λ c. search needs) returns-4)

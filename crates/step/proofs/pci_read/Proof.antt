@@ -6,7 +6,7 @@ use Rattle.machine.specs.Step.{showing}
 use Rattle.refusal.specs.Codes.{accessCode}
 use Rattle.bank.specs.Bank.{stateIn}
 use Rattle.fifo.proofs.Ring.{from-front, from-pop}
-use Rattle.step.proofs.Laws.{refusal, done-step, pci-port-read, pci-port-read-state, pci-port-reply, pci-read-state, pci-read-reply}
+use Rattle.step.proofs.Laws.{refused, done-step, pci-port-read, pci-port-read-state, pci-port-reply, pci-read-state, pci-read-reply}
 use borrow.Author.Needs.{needs}
 use Rattle.step.proofs.pci_read.Statement.{statement}
 use Rattle.step.proofs.pci_read.Tie as tie
@@ -16,7 +16,7 @@ returns c = λ pci start memory.
     let a = c .before .before .before .before .before .args in
     let code = c .before .before .access-code in
     rw (c .answered .ensures .0, c .answered .ensures .1 (now (a .mail)) pci (now (a .addon)), ← code .ensures .1 (now (a .mail)) pci (now (a .addon)))
-    (refusal (stateIn (a .b) (now (a .mail)) pci (now (a .addon))) start memory (accessOf (a .s)) (code .result) (c .before .if1 .taken) (code .ensures .0))
+    (refused (stateIn (a .b) (now (a .mail)) pci (now (a .addon))) start memory (accessOf (a .s)) (code .result) (c .before .if1 .taken) (code .ensures .0))
 
 returns-2 : tie.Need-returns-2
 unfolding stateIn

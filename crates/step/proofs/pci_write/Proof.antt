@@ -6,7 +6,7 @@ use Rattle.machine.specs.Step.{nothing, showing}
 use Rattle.refusal.specs.Codes.{accessCode}
 use Rattle.bank.specs.Bank.{stateIn}
 use Rattle.machine.specs.Sides.{host}
-use Rattle.step.proofs.Laws.{refusal, done-step, one-more-in, pci-port-write, pci-port-write-state, write-reply, port-write-reply}
+use Rattle.step.proofs.Laws.{refused, done-step, one-more-in, pci-port-write, pci-port-write-state, write-reply, port-write-reply}
 use borrow.Author.Needs.{needs}
 use Rattle.step.proofs.pci_write.Statement.{statement}
 use Rattle.step.proofs.pci_write.Tie as tie
@@ -16,7 +16,7 @@ returns c = λ addon start memory.
     let a = c .before .before .before .before .before .args in
     let code = c .before .before .access-code in
     rw (c .answered .ensures .0, c .answered .ensures .1 (now (a .mail)) (now (a .pci)) addon, ← code .ensures .1 (now (a .mail)) (now (a .pci)) addon)
-    (refusal (stateIn (a .b) (now (a .mail)) (now (a .pci)) addon) start memory (accessOf (a .s)) (code .result) (c .before .if1 .taken) (code .ensures .0))
+    (refused (stateIn (a .b) (now (a .mail)) (now (a .pci)) addon) start memory (accessOf (a .s)) (code .result) (c .before .if1 .taken) (code .ensures .0))
 
 returns-2 : tie.Need-returns-2
 unfolding stateIn
