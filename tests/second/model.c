@@ -418,7 +418,8 @@ static uint32_t access_code(const struct controller *c, const struct step *s)
     return DONE;
 }
 
-/* MCSR and AGCSTS change marks too, and don't show it. */
+/* A read shows the whole register, whatever the enables. MCSR and AGCSTS
+ * change marks too, and don't show it. */
 static struct answer do_access(struct controller *c, const struct step *s)
 {
     uint32_t code = access_code(c, s);
@@ -431,14 +432,14 @@ static struct answer do_access(struct controller *c, const struct step *s)
         return answer_of(c, code, 0);
     switch (s->kind) {
     case PCI_READ:
-        data = pci_read(c, place, s->enables) & enabled_bits[s->enables];
+        data = pci_read(c, place, s->enables);
         break;
     case PCI_WRITE:
         pci_write(c, place, s->enables, s->data);
         end_rights(c);
         break;
     case ADDON_READ:
-        data = addon_read(c, place, s->enables) & enabled_bits[s->enables];
+        data = addon_read(c, place, s->enables);
         break;
     default:
         addon_write(c, place, s->enables, s->data);

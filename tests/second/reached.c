@@ -54,6 +54,7 @@ struct account {
 /* The mailboxes by their own account, as far as events go by it, and the
  * interrupt register of each side. */
 struct mail_account {
+    uint32_t word[MAILBOXES];
     uint32_t marks;
     uint32_t chosen[SIDES];     /* bits 15 to 0 as last written */
     uint32_t line[SIDES];       /* of the answer before */
@@ -76,6 +77,9 @@ struct reached {
     uint64_t pair[KINDS][CODES];
     uint64_t use[SIDES][REGISTERS][USES];
     uint64_t mail_read[16], mail_write[16];
+    uint64_t part[SIDES][REGISTERS];    /* showing bytes not enabled */
+    uint64_t none[SIDES][REGISTERS];    /* showing any with none enabled */
+    uint64_t left_full[HALVES];         /* bytes not enabled of a fetch */
     uint64_t interrupt_set[SIDES][32];
     uint64_t status_set[SIDES][8], status_clear[SIDES][8];
     struct account to_addon, to_pci;
@@ -351,11 +355,22 @@ static uint32_t chosen_after(const struct step *s, int side, uint32_t bits)
     return bits;
 }
 
+/* The data bits of the bytes that are enabled. */
+static uint32_t bits_of(uint32_t enables)
+{
+    uint32_t mask = 0;
+
+    for (int i = 0; i < 4; i++)
+        if (enables >> i & 1)
+            mask |= UINT32_C(0xFF) << 8 * i;
+    return mask;
+}
+
 /* The count of one way that a done step leaves. */
 static uint32_t count_after(const struct step *s, int way, uint32_t count)
 {
     uint32_t place = way == OUT_OF_FIFO ? WRITE_COUNT : READ_COUNT;
-    uint32_t mask = 0;
+    uint32_t mask = bits_of(s->enables);
 
     if (s->kind == CHIP_RESET)
         return 0;
@@ -363,9 +378,6 @@ static uint32_t count_after(const struct step *s, int way, uint32_t count)
         return count - (count < 4 ? count : 4);
     if (s->kind != PCI_WRITE || s->offset != 4 * place)
         return count;
-    for (int i = 0; i < 4; i++)
-        if (s->enables >> i & 1)
-            mask |= UINT32_C(0xFF) << 8 * i;
     return ((count & ~mask) | (s->data & mask)) & 0x03FFFFFF;
 }
 
@@ -627,15 +639,23 @@ static bool shows_marks(const struct reached *r, const struct step *s,
                         const struct answer *a)
 {
     return (s->kind != PCI_READ && s->kind != ADDON_READ)
-        || s->offset != 4 * MAIL_STATUS || s->enables != 15
-        || a->data == r->mail.marks;
+        || s->offset != 4 * MAIL_STATUS || a->data == r->mail.marks;
+}
+
+/* One of a mailbox its whole word, whatever is enabled. */
+static bool shows_mail(const struct reached *r, const struct step *s,
+                       const struct answer *a)
+{
+    return (s->kind != PCI_READ && s->kind != ADDON_READ)
+        || s->offset >= 4 * MAILBOXES
+        || a->data == r->mail.word[s->offset / 4];
 }
 
 /* And one of a count the count of the account. */
 static bool shows_count(const struct reached *r, const struct step *s,
                         const struct answer *a)
 {
-    if (s->kind != PCI_READ || s->enables != 15)
+    if (s->kind != PCI_READ)
         return true;
     return s->offset == 4 * WRITE_COUNT ? a->data == r->count[OUT_OF_FIFO]
          : s->offset != 4 * READ_COUNT || a->data == r->count[INTO_FIFO];
@@ -667,8 +687,19 @@ static bool shows_fills(const struct reached *r, const struct step *s,
         return !(a->data & interrupt_zero[side_of(s)]);
     return s->offset != 4 * MCSR
         || (!(a->data & control_zero[side_of(s)])
-            && (!(s->enables & 1)
-                || (a->data & 0x3F) == status_of(r, side_of(s))));
+            && (a->data & 0x3F) == status_of(r, side_of(s)));
+}
+
+static void keep_mail(struct reached *r, const struct step *s)
+{
+    uint32_t mask = bits_of(s->enables);
+    uint32_t *word = &r->mail.word[s->offset / 4 % MAILBOXES];
+
+    if (s->kind == CHIP_RESET)
+        memset(r->mail.word, 0, sizeof r->mail.word);
+    if ((s->kind == PCI_WRITE || s->kind == ADDON_WRITE)
+        && s->offset < 4 * MAILBOXES)
+        *word = (*word & ~mask) | (s->data & mask);
 }
 
 static void note_events(struct reached *r, const struct step *s,
@@ -708,16 +739,32 @@ static bool note_abort(struct reached *r, const struct step *s,
 
 /* The bits of the interrupt and control registers that a read has shown. */
 static void note_bits(struct reached *r, int side, uint32_t place,
-                      uint32_t enables, uint32_t data)
+                      uint32_t data)
 {
     if (place == INTCSR)
         for (int i = 0; i < 32; i++)
             r->interrupt_set[side][i] += data >> i & 1;
-    if (place == MCSR && enables & 1)
+    if (place == MCSR)
         for (int i = 0; i < 8; i++) {
             r->status_set[side][i] += data >> i & 1;
             r->status_clear[side][i] += ~data >> i & 1;
         }
+}
+
+/* A done read that leaves out bytes, and shows something there. A fetch
+ * leaves their marks: the status has to show that later. */
+static void note_part(struct reached *r, const struct step *s,
+                      const struct answer *a)
+{
+    int side = side_of(s), half = s->offset < 0x10 ? OUTGOING : INCOMING;
+    uint32_t place = s->offset / 4;
+    uint32_t left = place < MAILBOXES
+                  ? r->mail.marks & (15 & ~s->enables) << s->offset : 0;
+
+    if (a->data & ~bits_of(s->enables))
+        (s->enables == 0 ? r->none : r->part)[side][place]++;
+    if (side == (half == OUTGOING ? ADDON : PCI) && s->enables != 0)
+        r->left_full[half] += left != 0;
 }
 
 /* A read or write that was done, or a write refused as read-only. */
@@ -739,8 +786,10 @@ static void note_access(struct reached *r, const struct step *s,
         r->mail_write[s->enables]++;
     else if (place < MAILBOXES)
         r->mail_read[s->enables]++;
-    if (!write)
-        note_bits(r, side, place, s->enables, a->data);
+    if (!write) {
+        note_bits(r, side, place, a->data);
+        note_part(r, s, a);
+    }
 }
 
 /* One frame line with its log line; false if they don't fit. */
@@ -772,13 +821,15 @@ static bool measure(struct reached *r, const struct line *frame,
         note_clears(r, &s);
         note_ends(r, &s, &a);
         note_events(r, &s, &a);
+        keep_mail(r, &s);
     }
     r->mail.line[PCI] = a.line;
     r->mail.line[ADDON] = a.addon_line;
     return note_abort(r, &s, &a)
         && (a.code != DONE
             || (keep_account(r, &s) && shows_marks(r, &s, &a)
-                && shows_fills(r, &s, &a) && shows_count(r, &s, &a)));
+                && shows_mail(r, &s, &a) && shows_fills(r, &s, &a)
+                && shows_count(r, &s, &a)));
 }
 
 static bool measure_files(struct reached *r, FILE *frames, FILE *log)
@@ -821,6 +872,20 @@ static void print_registers(const struct reached *r)
                        side_name[side], 4 * i, r->use[side][i][READ],
                        r->use[side][i][WRITTEN],
                        r->use[side][i][REFUSED]);
+}
+
+static void print_parts(const struct reached *r)
+{
+    puts("reads showing bytes not enabled: with some enabled, with none");
+    for (int side = 0; side < SIDES; side++)
+        for (int i = 0; i < REGISTERS; i++)
+            if (table_of[side] >> i & 1 && i != FIFO_PORT)
+                printf("  %-6s %02X %" PRIu64 " %" PRIu64 "\n",
+                       side_name[side], 4 * i, r->part[side][i],
+                       r->none[side][i]);
+    for (int half = 0; half < HALVES; half++)
+        printf("fetches of %s bytes that left others full %" PRIu64 "\n",
+               half_name[half], r->left_full[half]);
 }
 
 static void print_events(const struct reached *r)
@@ -953,6 +1018,21 @@ static void need_registers(struct reached *r)
         }
 }
 
+static void need_parts(struct reached *r)
+{
+    for (int side = 0; side < SIDES; side++)
+        for (int i = 0; i < REGISTERS; i++)
+            if (table_of[side] >> i & 1 && i != FIFO_PORT) {
+                need(r, r->part[side][i], side_name[side],
+                     "read in part, place", i);
+                need(r, r->none[side][i], side_name[side],
+                     "read with no enables, place", i);
+            }
+    for (int half = 0; half < HALVES; half++)
+        need(r, r->left_full[half], half_name[half],
+             "bytes left full by a fetch, half", half);
+}
+
 static void need_events(struct reached *r)
 {
     for (int side = 0; side < SIDES; side++)
@@ -1075,6 +1155,7 @@ int main(int argc, char **argv)
     fclose(log);
     print_pairs(&r);
     print_registers(&r);
+    print_parts(&r);
     print_events(&r);
     print_ends(&r);
     print_bits(&r);
@@ -1083,6 +1164,7 @@ int main(int argc, char **argv)
     print_rest(&r);
     need_pairs(&r);
     need_registers(&r);
+    need_parts(&r);
     need_events(&r);
     need_ends(&r);
     need_bits(&r);

@@ -2,6 +2,7 @@ pub mod Below
 pub mod Tests
 pub mod Bits
 pub mod Marks
+pub mod Status
 pub mod KindNumbers
 pub mod Done
 pub mod Form

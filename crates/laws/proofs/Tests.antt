@@ -45,6 +45,18 @@ any-none [] e i = refl
 any-none (b ∷ bs) e zero = or-left b (anyOf bs) e
 any-none (b ∷ bs) e (suc i) = any-none bs (or-right b (anyOf bs) e) i
 
+-- four and five tests, one after the other
+pub any-four : (a b c d : Bool) → (a || b || c || d) ≡ anyOf (a ∷ b ∷ c ∷ d ∷ [])
+any-four true b c d = refl
+any-four false true c d = refl
+any-four false false true d = refl
+any-four false false false true = refl
+any-four false false false false = refl
+
+pub any-five : (a b c d e : Bool) → (a || b || c || d || e) ≡ anyOf (a ∷ b ∷ c ∷ d ∷ e ∷ [])
+any-five true b c d e = refl
+any-five false b c d e = any-four b c d e
+
 -- ---- the first test that applies
 
 -- no code is 0

@@ -137,13 +137,13 @@ mailCases =
     example
     (pciWrite 0x04 0x11223344 ∷ pciRead 0x04 ∷ pciRead 0x34 ∷ stepBy 2 0x04 5 0 ∷ addonRead 0x34 ∷ addonRead 0x04 ∷ pciRead 0x34 ∷ stepBy 1 0x04 2 0xAABBCCDD
     ∷ pciRead 0x04 ∷ pciRead 0x34 ∷ [])
-    (turning 0xF0 ok ∷ says 0x11223344 ∷ says 0xF0 ∷ turning 0x50 (says 0x220044) ∷ says 0xA0 ∷ turning 0xA0 (says 0x11223344) ∷ says 0 ∷ turning 0x20 ok ∷ says 0x1122CC44
+    (turning 0xF0 ok ∷ says 0x11223344 ∷ says 0xF0 ∷ turning 0x50 (says 0x11223344) ∷ says 0xA0 ∷ turning 0xA0 (says 0x11223344) ∷ says 0 ∷ turning 0x20 ok ∷ says 0x1122CC44
     ∷ says 0x20 ∷ [])
-    -- the highest bytes of both halves; enables of 0 do nothing
+    -- the highest bytes of both halves; enables of 0 change nothing
     ∷ example
     (stepBy 1 0x0C 8 0x5A000000 ∷ stepBy 3 0x1C 8 0xC3000000 ∷ addonRead 0x34 ∷ stepBy 1 0x00 0 0xFF ∷ stepBy 2 0x0C 0 0 ∷ stepBy 0 0x34 8 0 ∷ addonRead 0x1C
     ∷ pciRead 0x34 ∷ [])
-    (turning 0x8000 ok ∷ turning 0x80000000 ok ∷ says 0x80008000 ∷ ok ∷ ok ∷ says 0x80000000 ∷ says 0xC3000000 ∷ says 0x80008000 ∷ [])
+    (turning 0x8000 ok ∷ turning 0x80000000 ok ∷ says 0x80008000 ∷ ok ∷ says 0x5A000000 ∷ says 0x80008000 ∷ says 0xC3000000 ∷ says 0x80008000 ∷ [])
     -- an incoming byte stays when it is read, and when MCSR 27 marks it empty
     ∷ example (addonWrite 0x14 7 ∷ pciRead 0x14 ∷ pciRead 0x14 ∷ pciWrite 0x3C 0x08000000 ∷ pciRead 0x14 ∷ [])
     (turning 0xF00000 ok ∷ turning 0xF00000 (says 7) ∷ says 7 ∷ ok ∷ says 7 ∷ [])
@@ -207,11 +207,11 @@ cycleCases =
     ∷ example
     (stepBy 1 0x28 1 0xFFFFFFFF ∷ pciRead 0x28 ∷ stepBy 1 0x30 8 0xFFFFFFFF ∷ pciRead 0x30 ∷ stepBy 1 0x2C 5 0x12345677 ∷ pciRead 0x2C ∷ stepBy 0 0x2C 4 0
     ∷ pciWrite 0x28 0 ∷ pciRead 0x38 ∷ [])
-    (ok ∷ says 0xFF ∷ ok ∷ says 0x03000000 ∷ ok ∷ says 0x340074 ∷ says 0x340000 ∷ ok ∷ says 0 ∷ [])
+    (ok ∷ says 0xFF ∷ ok ∷ says 0x03000000 ∷ ok ∷ says 0x340074 ∷ says 0x340074 ∷ ok ∷ says 0 ∷ [])
     -- part writes of MCSR, part reads of MCSR and INTCSR
     ∷ example
     (pciWrite 0x3C 0xF700 ∷ stepBy 1 0x3C 13 0 ∷ pciRead 0x3C ∷ stepBy 0 0x3C 1 0 ∷ stepBy 1 0x3C 2 0 ∷ pciRead 0x3C ∷ pciWrite 0x38 0x1F1F ∷ stepBy 0 0x38 2 0 ∷ [])
-    (ok ∷ ok ∷ says 0xF7E6 ∷ says 0xE6 ∷ ok ∷ says 0xE6 ∷ ok ∷ says 0x1F00 ∷ [])
+    (ok ∷ ok ∷ says 0xF7E6 ∷ says 0xF7E6 ∷ ok ∷ says 0xE6 ∷ ok ∷ says 0x1F1F ∷ [])
     -- a chip reset leaves host memory and zeroes the rest
     ∷ record {
       state = stateBy (laneBy (1 ∷ []) 8 1) (laneBy (2 ∷ []) 4 2) 0x10DF1F 0xF700;
@@ -343,12 +343,12 @@ addonCases =
     example
     (addonWrite 0x38 0xFFFFFFFF ∷ addonRead 0x38 ∷ pciRead 0x38 ∷ stepBy 3 0x38 1 0 ∷ addonRead 0x38 ∷ stepBy 2 0x38 1 0 ∷ stepBy 6 0 0 0 ∷ addonRead 0x38 ∷ pciWrite 0x38 0xFFFFFFFF
     ∷ addonRead 0x38 ∷ [])
-    (ok ∷ says 0xDF1F ∷ says 0 ∷ ok ∷ says 0xDF00 ∷ says 0 ∷ ok ∷ says 0 ∷ ok ∷ says 0 ∷ [])
+    (ok ∷ says 0xDF1F ∷ says 0 ∷ ok ∷ says 0xDF00 ∷ says 0xDF00 ∷ ok ∷ says 0 ∷ ok ∷ says 0 ∷ [])
     -- AGCSTS keeps nothing, and shows the FIFO from PCI above the one from the Add-On
     ∷ example
     (addonWrite 0x3C 0xF1FFFFFF ∷ addonRead 0x3C ∷ pciWrite 0x20 1 ∷ addonRead 0x3C ∷ addonWrite 0x20 1 ∷ addonWrite 0x20 2 ∷ addonWrite 0x20 3 ∷ addonWrite 0x20 4 ∷ addonRead 0x3C
     ∷ pciRead 0x3C ∷ pciWrite 0x3C 0xF700 ∷ stepBy 2 0x3C 2 0 ∷ stepBy 2 0x3C 1 0 ∷ [])
-    (ok ∷ says 0x34 ∷ ok ∷ says 0x14 ∷ ok ∷ ok ∷ ok ∷ ok ∷ says 0x12 ∷ says 0xD2 ∷ ok ∷ says 0 ∷ says 0x12 ∷ [])
+    (ok ∷ says 0x34 ∷ ok ∷ says 0x14 ∷ ok ∷ ok ∷ ok ∷ ok ∷ says 0x12 ∷ says 0xD2 ∷ ok ∷ says 0x12 ∷ says 0x12 ∷ [])
     ∷ case (stateBy (laneBy (replicate 8 0) 0 5) (laneBy (replicate 8 0) 0 6) 0 0) 0 [] (addonRead 0x3C ∷ pciRead 0x3C ∷ []) (says 0xB ∷ says 0x19 ∷ [])
     -- its clears: 26 the FIFO from PCI, 25 the one from the Add-On, 27 every mark; where their byte is enabled
     ∷ example
@@ -385,8 +385,52 @@ addonCases =
     ∷ case (withAint 0x88000 resetState) 0 [] (pciRead 0x34 ∷ []) (addonHigh (says 0) ∷ [])
     ∷ []
 
+-- ---- reads in part (Ask 6)
+
+-- every register holds something, in more than one byte where it can; both lines are low
+abbrev pub filled : State
+filled =
+    record {
+      mail = 0x11223344 ∷ 0x55667788 ∷ 0x99AABBCC ∷ 0xDDEEFF01 ∷ 0x12345678 ∷ 0x9ABCDEF0 ∷ 0x13579BDF ∷ 0x2468ACE1 ∷ [];
+      marks = 0xFFFFFFFF;
+      fromPci = laneBy (1 ∷ []) 0x01020304 0x03050709;
+      fromAddon = laneBy (2 ∷ []) 0xF0E0D0C0 0x02040608;
+      intcsr = 0x10F0F;
+      mcsr = 0xF700;
+      aint = 0x20F0E;
+    }
+
+-- one register, read with no byte enabled, with each alone, with two and with all: the same word, and no mark changes
+abbrev pub inPart : ℕ → ℕ → ℕ → Example
+inPart kind offset word = case filled 0 [] (map (λ enables. stepBy kind offset enables 0) (0 ∷ 1 ∷ 2 ∷ 4 ∷ 8 ∷ 6 ∷ 15 ∷ [])) (replicate 7 (says word))
+
+abbrev pub partCases : List Example
+partCases =
+    -- each side's own mailboxes
+    inPart 0 0x00 0x11223344 ∷ inPart 0 0x0C 0xDDEEFF01 ∷ inPart 2 0x10 0x12345678 ∷ inPart 2 0x1C 0x2468ACE1
+    -- addresses, counts and the status
+    ∷ inPart 0 0x24 0xF0E0D0C0 ∷ inPart 0 0x28 0x02040608 ∷ inPart 0 0x2C 0x01020304 ∷ inPart 0 0x30 0x03050709
+    ∷ inPart 0 0x34 0xFFFFFFFF ∷ inPart 2 0x34 0xFFFFFFFF
+    -- INTCSR, MCSR, AINT and AGCSTS
+    ∷ inPart 0 0x38 0x10F0F ∷ inPart 0 0x3C 0xF702 ∷ inPart 2 0x38 0x20F0E ∷ inPart 2 0x3C 0x10
+    -- the other side's mailboxes: the whole word is shown each time, the enabled bytes alone are marked empty
+    ∷ case filled 0 [] (map (λ enables. stepBy 0 0x10 enables 0) (0 ∷ 1 ∷ 6 ∷ []) ++ stepBy 0 0x34 8 0 ∷ stepBy 0 0x10 15 0 ∷ stepBy 0 0x34 0 0 ∷ [])
+    (says 0x12345678 ∷ turning 0x10000 (says 0x12345678) ∷ turning 0x60000 (says 0x12345678) ∷ says 0xFFF8FFFF ∷ turning 0x80000 (says 0x12345678) ∷ says 0xFFF0FFFF ∷ [])
+    ∷ case filled 0 [] (map (λ enables. stepBy 2 0x0C enables 0) (0 ∷ 1 ∷ 6 ∷ []) ++ stepBy 2 0x34 8 0 ∷ stepBy 2 0x0C 15 0 ∷ stepBy 2 0x34 0 0 ∷ [])
+    (says 0xDDEEFF01 ∷ turning 0x1000 (says 0xDDEEFF01) ∷ turning 0x6000 (says 0xDDEEFF01) ∷ says 0xFFFF8FFF ∷ turning 0x8000 (says 0xDDEEFF01) ∷ says 0xFFFF0FFF ∷ [])
+    -- a chosen byte that is shown and not enabled is no event, to INTCSR and to AINT; a line that is high is shown in bit 23
+    ∷ example (pciWrite 0x38 0x10 ∷ pciWrite 0x00 0xA5C3 ∷ stepBy 2 0x00 14 0 ∷ stepBy 2 0x00 1 0 ∷ stepBy 0 0x38 8 0 ∷ [])
+    (ok ∷ turning 0xF ok ∷ turning 0xE (says 0xA5C3) ∷ turning 0x1 (high (says 0xA5C3)) ∷ high (says 0x810010) ∷ [])
+    ∷ example (addonWrite 0x38 0x1000 ∷ addonWrite 0x10 0xA5C3 ∷ stepBy 0 0x10 14 0 ∷ stepBy 0 0x10 1 0 ∷ stepBy 2 0x38 1 0 ∷ [])
+    (ok ∷ turning 0xF0000 ok ∷ turning 0xE0000 (says 0xA5C3) ∷ turning 0x10000 (addonHigh (says 0xA5C3)) ∷ addonHigh (says 0x821000) ∷ [])
+    -- what is refused shows nothing; a write takes its enabled bytes, and answers no data
+    ∷ case filled 0 [] (stepBy 0 0x20 7 0 ∷ stepBy 2 0x20 0 0 ∷ stepBy 0 0x00 16 0 ∷ stepBy 2 0x24 1 0 ∷ pciRead 0x20 ∷ addonRead 0x20 ∷ [])
+    (refuses 6 ∷ refuses 6 ∷ refuses 5 ∷ refuses 4 ∷ says 2 ∷ says 1 ∷ [])
+    ∷ case filled 0 [] (stepBy 1 0x00 2 0xAABBCCDD ∷ stepBy 0 0x00 0 0 ∷ stepBy 3 0x1C 8 0x11000000 ∷ stepBy 2 0x1C 4 0 ∷ []) (ok ∷ says 0x1122CC44 ∷ ok ∷ says 0x1168ACE1 ∷ [])
+    ∷ []
+
 abbrev pub neighbours : List Example
-neighbours = formCases ++ windowCases ++ accessCases ++ mailCases ++ cycleCases ++ burstCases ++ eventCases ++ addonCases
+neighbours = formCases ++ windowCases ++ accessCases ++ mailCases ++ cycleCases ++ burstCases ++ eventCases ++ addonCases ++ partCases
 
 -- `neighbours-hold`: the machine meets these too
 abbrev pub NeighboursHold : Type 0

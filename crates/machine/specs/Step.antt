@@ -54,9 +54,9 @@ register side st offset =
     (cond (eqb offset interruptsAt) (interruptsRead (interrupts side st))
     (controlRead side st)))))))
 
--- a read: at the port the front word of the FIFO that the other side feeds, whole by code 6; the enabled bytes of any other register
+-- a read: at the port the front word of the FIFO that the other side feeds; elsewhere the whole register, whatever the enables (Ask 6)
 unfoldable pub readValue : Party → State → Access → ℕ
-readValue party st x = cond (eqb (x .offset) fifoPort) (front (held (other (sideOf party)) st)) (shown (register (sideOf party) st (x .offset)) (x .enables))
+readValue party st x = cond (eqb (x .offset) fifoPort) (front (held (other (sideOf party)) st)) (register (sideOf party) st (x .offset))
 
 -- A done step: a read shows data, a cycle its address before the step, its word and the lowest n enables; writes and a reset nothing.
 -- A read and a write tell which marks they changed (Ask 2).

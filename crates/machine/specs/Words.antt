@@ -38,7 +38,7 @@ cleared x y = bitAnd x (ones 0 31 - y)
 unfoldable pub raised : ℕ → Bool → ℕ → ℕ
 raised x on k = cond on (bitOr x (2 ^ k)) x
 
--- A step and its answer: what a read shows of x, its enabled bytes; zero at the others (house)
+-- the enabled bytes of x, zero at the others: what a read cycle takes of a memory word, a write of its data; a read answers whole words (Ask 6)
 unfoldable pub shown : ℕ → ℕ → ℕ
 shown x enables = bitAnd x (mask enables)
 

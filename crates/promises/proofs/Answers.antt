@@ -1,33 +1,29 @@
 -- What a done step answers, and the rules that its answer goes by: offsets, registers, readiness, places and the line.
-use Prim.Native.Nat.{ℕ, zero, suc, _+_, _-_, _*_, _/_, _%_, _^_, _≤_, _<_, min}
-use mathlib.Core.Path.{_≡_, refl, sym, ap, _∙_}
+use Prim.Native.Nat.{ℕ, zero, suc, _-_, _*_, _/_, _%_, _^_, _≤_, _<_, min}
+use mathlib.Core.Path.{_≡_, refl, sym, _∙_}
 use mathlib.Core.Bool.{Bool, true, false, cond, not, _&&_, _||_, or-false, and-comm}
 use mathlib.Core.List.{List, [], _∷_}
-use native.Mathlib.Nat.{zero-mul}
 use native.Mathlib.Omega.{arith}
 use lib.Dec.{eqb, leb, ltb}
-use lib.Bits.{bitOr, and-zero-l, or-zero-l}
 use lib.ListN.{length, getD}
 use borrow.Author.Tests.{ne-eqb, lt-ltb, le-ltb, ltb-true, ltb-false, lt-leb, le-leb, leb-true, leb-false}
-use Rattle.machine.specs.Words.{bit, ones, mask, cleared, shown, merged}
-use Rattle.machine.specs.Sides.{Side, pci, addon}
+use Rattle.machine.specs.Words.{bit, shown}
+use Rattle.machine.specs.Sides.{pci, addon}
 use Rattle.machine.specs.State.{State}
 use Rattle.machine.specs.Access.{kindOf, accessOf}
 use Rattle.machine.specs.Offsets.{inTable, isReadOnly}
 use Rattle.machine.specs.Mailboxes.{changes}
-use Rattle.machine.specs.Fifos.{front}
 use Rattle.machine.specs.Window.{placeOf}
 use Rattle.machine.specs.Cycles.{lowEnables, isReady, cycleWord}
 use Rattle.machine.specs.Interrupts.{lineOf}
 use Rattle.machine.specs.Code.{codeOf, tests}
-use Rattle.machine.specs.Step.{register, readValue, Reply, nothing, showing, doneReply, abortedReply, replyOf, answered, respond, stepOf}
-use Rattle.promises.specs.Account.{byteOf}
-use Rattle.promises.specs.Readings.{isOneOf, pciOffsets, addonOffsets, pciReadOnly, addonReadOnly, OffsetTable, OffsetTables, RegisterTables, ReadyRule, PlaceRule, isLineHigh, LineRule, byteIf, addresses, values, lowestEnables, AnswerRule}
+use Rattle.machine.specs.Step.{register, readValue, Reply, nothing, doneReply, abortedReply, replyOf, answered, respond, stepOf}
+use Rattle.promises.specs.Readings.{isOneOf, pciOffsets, addonOffsets, pciReadOnly, addonReadOnly, OffsetTable, OffsetTables, RegisterTables, ReadyRule, PlaceRule, isLineHigh, LineRule, addresses, values, lowestEnables, AnswerRule}
 use Rattle.machine.specs.declared.Step.{Step}
 use Rattle.laws.proofs.Tests.{and-left, and-right, none-applies}
 use Rattle.laws.proofs.KindNumbers.{named, aborted-reply}
 use Rattle.laws.proofs.Bits.{bit-low, bit-beyond, by-bits}
-use Rattle.promises.proofs.Bytes.{listed, agree, bit-shown, shown-lt, byte-merged}
+use Rattle.promises.proofs.Bytes.{listed, agree, bit-shown, shown-lt}
 use Rattle.promises.proofs.Readings.{low-enables}
 use Rattle.laws.proofs.Refused.{line-cond}
 
@@ -151,36 +147,6 @@ line-rule st start memory s =
 
 -- ---- data
 
-merged-zero : (x e : ℕ) → merged 0 x e ≡ shown x e
-unfolding merged cleared
-merged-zero x e = ap (λ (z : ℕ). bitOr z (shown x e)) (and-zero-l (ones 0 31 - mask e)) ∙ or-zero-l (shown x e)
-
--- byte i of the enabled bytes
-byte-shown : (i : ℕ) → i < 4 → (x e : ℕ) → byteOf i (shown x e) ≡ cond (bit e i) (byteOf i x) (byteOf i 0)
-byte-shown i h x e = ap (byteOf i) (sym (merged-zero x e)) ∙ byte-merged i h 0 x e
-
-placed : (b : Bool) (n m : ℕ) → cond b n 0 * m ≡ cond b (n * m) 0
-placed true n m = refl
-placed false n m = zero-mul m
-
--- a word of four bytes
-four-bytes : (w : ℕ) → w < 2 ^ 32 → w ≡ byteOf 0 w * 2 ^ 0 + byteOf 1 w * 2 ^ 8 + byteOf 2 w * 2 ^ 16 + byteOf 3 w * 2 ^ 24
-four-bytes w h =
-    let two : w / 2 ^ 16 ≡ w / 2 ^ 8 / 2 ^ 8 = omega arith in
-    let three : w / 2 ^ 24 ≡ w / 2 ^ 16 / 2 ^ 8 = omega arith in
-    let low : w ≡ w / 2 ^ 8 * 2 ^ 8 + w % 2 ^ 8 = omega arith in
-    let next : w / 2 ^ 8 ≡ w / 2 ^ 16 * 2 ^ 8 + w / 2 ^ 8 % 2 ^ 8 = omega arith in
-    let last : w / 2 ^ 16 ≡ w / 2 ^ 24 * 2 ^ 8 + w / 2 ^ 16 % 2 ^ 8 = omega arith in
-    let top : w / 2 ^ 24 % 2 ^ 8 ≡ w / 2 ^ 24 = omega arith in
-    omega (arith, low, next, last, top)
-
--- the enabled bytes of a word, joined
-pub shown-bytes : (x e : ℕ) → shown x e ≡ byteIf x e 0 + byteIf x e 1 + byteIf x e 2 + byteIf x e 3
-shown-bytes x e =
-    four-bytes (shown x e) (shown-lt x e)
-    ∙ (λ i. byte-shown 0 (omega arith) x e i * 2 ^ 0 + byte-shown 1 (omega arith) x e i * 2 ^ 8 + byte-shown 2 (omega arith) x e i * 2 ^ 16 + byte-shown 3 (omega arith) x e i * 2 ^ 24)
-    ∙ (λ i. placed (bit e 0) (byteOf 0 x) (2 ^ 0) i + placed (bit e 1) (byteOf 1 x) (2 ^ 8) i + placed (bit e 2) (byteOf 2 x) (2 ^ 16) i + placed (bit e 3) (byteOf 3 x) (2 ^ 24) i)
-
 -- the lowest n bytes
 by-bytes : (k n : ℕ) → ltb (k / 8) n ≡ ltb k (8 * n)
 by-bytes k n = by (ltb k (8 * n)) refl
@@ -207,14 +173,11 @@ module _ (st : State) (start : ℕ) (memory : List ℕ) (s : Step) where
   by-number : (k : ℕ) → Reply
   by-number k = record { address = getD (addresses st) k 0; value = getD (values st start memory s) k 0; enables = getD (lowestEnables st) k 0; changed = cond (ltb k 4) (changes (accessOf s) (st .marks)) 0 }
 
-  shown-is : (side : Side) → (let r = register side st (s .offset) in shown r (s .enables) ≡ byteIf r (s .enables) 0 + byteIf r (s .enables) 1 + byteIf r (s .enables) 2 + byteIf r (s .enables) 3)
-  shown-is side = shown-bytes (register side st (s .offset)) (s .enables)
-
   reply-is : (k : ℕ) → doneReply (kindOf k) st start memory (accessOf s) ≡ by-number k
   unfolding by-number doneReply readValue cycleWord lowEnables
-  reply-is zero = λ i. showing (cond (eqb (s .offset) 0x20) (front (st .fromAddon .words)) (shown-is pci i)) (changes (accessOf s) (st .marks))
+  reply-is zero = refl
   reply-is (suc zero) = refl
-  reply-is (suc (suc zero)) = λ i. showing (cond (eqb (s .offset) 0x20) (front (st .fromPci .words)) (shown-is addon i)) (changes (accessOf s) (st .marks))
+  reply-is (suc (suc zero)) = refl
   reply-is (suc (suc (suc zero))) = refl
   reply-is (suc (suc (suc (suc zero)))) = refl
   reply-is (suc (suc (suc (suc (suc zero))))) =

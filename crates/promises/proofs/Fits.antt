@@ -1,38 +1,39 @@
 -- All numbers stay below 2^32, and every answer fits the digits of a log line.
-use Prim.Native.Nat.{ℕ, zero, suc, _+_, _-_, _%_, _^_, _≤_, _<_, min}
-use mathlib.Core.Path.{_≡_, refl, sym, ap}
+use Prim.Native.Nat.{ℕ, zero, suc, _+_, _-_, _*_, _%_, _^_, _≤_, _<_, min}
+use mathlib.Core.Path.{_≡_, refl, ap}
 use mathlib.Core.Bool.{Bool, true, false, cond, _&&_}
 use mathlib.Core.List.{List, [], _∷_, _++_}
 use native.Mathlib.Nat.{mod-lt, mod-le, pow-le-pow-right}
 use native.Mathlib.Omega.{arith}
 use lib.Dec.{eqb, ltb}
-use lib.Bits.{bitAnd, bitXor, or-lt, xor-lt, and-le-l, and-le-r}
+use lib.Bits.{bitAnd, bitOr, bitXor, or-lt, xor-lt, and-le-l, and-le-r}
 use lib.ListN.{length, getD, set, drop}
 use borrow.Author.Tests.{eqb-true}
-use Rattle.machine.specs.Words.{ones, mask, raised, cleared, shown, merged, written}
+use Rattle.machine.specs.Words.{ones, flag, mask, raised, cleared, shown, merged, written}
 use Rattle.machine.specs.Sides.{Side, pci, addon, sameSide, sideOf}
 use Rattle.machine.specs.State.{Lane, State, resetState}
 use Rattle.machine.specs.Access.{Access, accessOf, Kind, reading, writing, cycle, chipReset, unknown, isReset, cycles, writes, isReadBy, isWriteBy}
-use Rattle.machine.specs.Offsets.{isMailbox, writer, reader, fifoPort, addressAt, countAt, interruptsAt, controlAt}
+use Rattle.machine.specs.Offsets.{isMailbox, mailbox, writer, reader, fifoPort, addressAt, countAt, statusAt, interruptsAt, controlAt}
 use Rattle.machine.specs.Commands.{clearsMarks, clearsFifo}
 use Rattle.machine.specs.Mailboxes.{marksAt, fills, takes, changes, marksAfter, mailAfter}
 use Rattle.machine.specs.Fifos.{front, cycleFeeds, letIn, handedOut, followed, fifoAfter}
 use Rattle.machine.specs.Window.{placeOf}
-use Rattle.machine.specs.Mcsr.{mcsrKept, mcsrAfter}
+use Rattle.machine.specs.Mcsr.{mcsrKept, mcsrAfter, fifoStatus, mcsrStatus, mcsrRead, agcstsRead}
 use Rattle.machine.specs.Cycles.{addressKept, countKept, stored, addressAfter, countAfter, laneAfter}
-use Rattle.machine.specs.Interrupts.{interrupts, interruptsKept, flags, interruptsWritten, notified, interruptsAfter, interruptsAborted}
+use Rattle.machine.specs.Interrupts.{interrupts, interruptsKept, flags, interruptsWritten, notified, interruptsAfter, interruptsAborted, interruptsRead}
 use Rattle.machine.specs.Code.{codeOf}
 use Rattle.machine.specs.Rights.{settled}
-use Rattle.machine.specs.Step.{Outcome, register, notAFrame, answered, movedState, doneState, abortedState, stateAfter, memoryAfter, replyOf, respond, stepOf}
-use Rattle.promises.specs.Readings.{byteIf, readThen, addresses, values, lowestEnables}
+use Rattle.machine.specs.Step.{Outcome, controlRead, register, notAFrame, answered, movedState, doneState, abortedState, stateAfter, memoryAfter, replyOf, respond, stepOf}
+use Rattle.promises.specs.Readings.{readThen, addresses, values, lowestEnables}
 use Rattle.promises.specs.Theorems.{cycleAddress}
 use Rattle.promises.specs.Fits.{AllBelow, WordsFit, LaneFits, StateFits, AnswerFits, ResetFits, FitKept, RunsFit, toStep, toNoFrame, GivenFits}
 use Rattle.machine.specs.declared.Step.{Step}
 use Rattle.laws.proofs.Tests.{and-right}
 use Rattle.promises.proofs.Bytes.{shown-lt}
 use Rattle.laws.proofs.Marks.{marks-lt}
+use Rattle.laws.proofs.Status.{status-small}
 use Rattle.promises.proofs.Refused.{numbered, refused, aborted}
-use Rattle.promises.proofs.Answers.{shown-bytes, changed-is, answer-rule}
+use Rattle.promises.proofs.Answers.{changed-is, answer-rule}
 
 -- ---- lists
 
@@ -206,9 +207,36 @@ memory-fits st start memory x code h =
 
 -- ---- what it answers
 
--- the enabled bytes, joined
-bytes-lt : (x e : ℕ) → byteIf x e 0 + byteIf x e 1 + byteIf x e 2 + byteIf x e 3 < 2 ^ 32
-bytes-lt x e = rw (sym (shown-bytes x e)) (shown-lt x e)
+-- the status of both FIFOs, and MCSR and AGCSTS, which show it
+flag-lt : (on : Bool) (k : ℕ) → 2 ^ k < 2 ^ 32 → flag on k < 2 ^ 32
+unfolding flag
+flag-lt on k h = below-cond on h (omega arith)
+
+both-lt : (high low : Side) (ws vs : List ℕ) → bitOr (fifoStatus high ws * 2 ^ 3) (fifoStatus low vs) < 2 ^ 32
+both-lt high low ws vs = or-lt 32 (fifoStatus high ws * 2 ^ 3) (fifoStatus low vs) (omega (arith, status-small high ws)) (omega (arith, status-small low vs))
+
+control-fits : (side : Side) (st : State) → st .mcsr < 2 ^ 32 → controlRead side st < 2 ^ 32
+unfolding mcsrRead mcsrStatus agcstsRead
+control-fits pci st h =
+    or-lt 32 _ _ h (or-lt 32 _ _ (or-lt 32 _ _ (flag-lt _ 7 (omega arith)) (flag-lt _ 6 (omega arith))) (both-lt addon pci (st .fromAddon .words) (st .fromPci .words)))
+control-fits addon st h = both-lt pci addon (st .fromPci .words) (st .fromAddon .words)
+
+own-lt : (side : Side) (st : State) → StateFits st → interrupts side st < 2 ^ 32
+own-lt pci st h = h .intcsr
+own-lt addon st h = h .aint
+
+-- what a register shows of a state that fits
+register-fits : (side : Side) (st : State) (offset : ℕ) → StateFits st → register side st offset < 2 ^ 32
+unfolding register interruptsRead
+register-fits side st offset h =
+    below-cond (isMailbox offset) (at-lt (2 ^ 32) (st .mail) (mailbox offset) (omega arith) (h .mail))
+    (below-cond (eqb offset (addressAt addon)) (h .fromAddon .address)
+    (below-cond (eqb offset (countAt addon)) (h .fromAddon .count)
+    (below-cond (eqb offset (addressAt pci)) (h .fromPci .address)
+    (below-cond (eqb offset (countAt pci)) (h .fromPci .count)
+    (below-cond (eqb offset statusAt) (h .marks)
+    (below-cond (eqb offset interruptsAt) (raised-lt _ _ 23 (omega arith) (own-lt side st h))
+    (control-fits side st (h .mcsr))))))))
 
 low-lt : (count : ℕ) → 2 ^ min 4 count - 1 < 16
 low-lt count = let p : 2 ^ min 4 count ≤ 2 ^ 4 = pow-le-pow-right {n = 2} (omega arith) {i = min 4 count} {j = 4} (omega arith) in omega arith
@@ -227,7 +255,7 @@ module _ (st : State) (start : ℕ) (memory : List ℕ) (s : Step) (h : StateFit
   front-lt ws k = at-lt (2 ^ 32) ws 0 z k
 
   read-lt : (side : Side) (ws : List ℕ) → WordsFit ws → readThen side st s ws < 2 ^ 32
-  read-lt side ws k = below-cond (eqb (s .offset) 0x20) (front-lt ws k) (bytes-lt (register side st (s .offset)) (s .enables))
+  read-lt side ws k = below-cond (eqb (s .offset) 0x20) (front-lt ws k) (register-fits side st (s .offset) h)
 
   values-fit : WordsFit (values st start memory s)
   values-fit = (

@@ -1,7 +1,7 @@
 -- What a read answers, what a step leaves of the memory, and what a read cycle takes from it.
-use Prim.Native.Nat.{ℕ, _/_, _<_}
+use Prim.Native.Nat.{ℕ, _<_}
 use mathlib.Core.Path.{_≡_, refl, ap, _∙_}
-use mathlib.Core.Bool.{Bool, true, false, _&&_, _||_, cond}
+use mathlib.Core.Bool.{Bool, true, false, _||_, cond}
 use mathlib.Core.List.{List}
 use lib.Dec.{eqb}
 use lib.ListN.{length, getD, set}
@@ -27,19 +27,17 @@ use Rattle.promises.proofs.Readings.{low-enables}
 -- ---- reads
 
 read-value : (st : State) (start : ℕ) (memory : List ℕ) (s : Step) → (eqb (s .kind) 0 || eqb (s .kind) 2) ≡ true → eqb (s .offset) 0x20 ≡ false
-    → (k : ℕ) → k < 32
-    → bit (doneReply (kindOf (s .kind)) st start memory (accessOf s) .value) k ≡ (bit (register (cond (eqb (s .kind) 0) pci addon) st (s .offset)) k && bit (s .enables) (k / 8))
+    → doneReply (kindOf (s .kind)) st start memory (accessOf s) .value ≡ register (cond (eqb (s .kind) 0) pci addon) st (s .offset)
 unfolding doneReply readValue
-read-value st start memory s r p k h = by (eqb (s .kind) 0) refl
+read-value st start memory s r p = by (eqb (s .kind) 0) refl
   where
-    by : (b : Bool) → eqb (s .kind) 0 ≡ b
-        → bit (doneReply (kindOf (s .kind)) st start memory (accessOf s) .value) k ≡ (bit (register (cond b pci addon) st (s .offset)) k && bit (s .enables) (k / 8))
-    by true e = rw (eqb-true (s .kind) 0 e, p) (bit-shown k h (register pci st (s .offset)) (s .enables))
-    by false e = rw (eqb-true (s .kind) 2 (rw e at r), p) (bit-shown k h (register addon st (s .offset)) (s .enables))
+    by : (b : Bool) → eqb (s .kind) 0 ≡ b → doneReply (kindOf (s .kind)) st start memory (accessOf s) .value ≡ register (cond b pci addon) st (s .offset)
+    by true e = rw (eqb-true (s .kind) 0 e, p)
+    by false e = rw (eqb-true (s .kind) 2 (rw e at r), p)
 
 pub read-answers : ReadAnswers
 unfolding stepOf respond answered replyOf
-read-answers st start memory s e r p k h = rw e (read-value st start memory s r p k h)
+read-answers st start memory s e r p = rw e (read-value st start memory s r p)
 
 -- ---- memory
 

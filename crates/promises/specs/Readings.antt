@@ -18,13 +18,12 @@ use Rattle.machine.specs.Cycles.{addressKept, countKept, lowEnables, isReady}
 use Rattle.machine.specs.Interrupts.{interrupts, interruptsKept, flags, interruptsWritten, lineOf, interruptsRead}
 use Rattle.machine.specs.Code.{isOutOfForm}
 use Rattle.machine.specs.Step.{register, stepOf}
-use Rattle.promises.specs.Account.{byteOf}
 use Rattle.machine.specs.declared.Step.{Step}
 use Rattle.machine.specs.declared.Answer.{Answer}
 
 -- ---- of the rules for words
 
--- `shown-bits`: the enabled bytes, zero at the others (house); byte k / 8 has bit k
+-- `shown-bits`: the enabled bytes, zero at the others; byte k / 8 has bit k
 abbrev pub ShownBits : Type 0
 ShownBits = (k : ℕ) → k < 32 → (x enables : ℕ) → bit (shown x enables) k ≡ (bit x k && bit enables (k / 8))
 
@@ -162,13 +161,13 @@ PlaceRule =
 
 -- ---- of a step
 
--- `read-answers`: a done read of a register but the FIFO port answers its enabled bytes, zero at the others
+-- `read-answers`: Ask 6, a done read of a register but the FIFO port answers the whole register, whatever the enables
 abbrev pub ReadAnswers : Type 0
 ReadAnswers =
     (st : State) (start : ℕ) (memory : List ℕ) (s : Step)
     → (let o = stepOf st start memory s in
     o .answer .code ≡ 0 → (eqb (s .kind) 0 || eqb (s .kind) 2) ≡ true → eqb (s .offset) 0x20 ≡ false
-    → (k : ℕ) → k < 32 → bit (o .answer .value) k ≡ (bit (register (cond (eqb (s .kind) 0) pci addon) st (s .offset)) k && bit (s .enables) (k / 8)))
+    → o .answer .value ≡ register (cond (eqb (s .kind) 0) pci addon) st (s .offset))
 
 -- what a write cycle leaves of the memory: at the place of its address the lowest n bytes of the front word, the others as they were; all else as it was
 pub record WriteCycleStores (st : State) (start : ℕ) (memory after : List ℕ) : Type 0 where
@@ -298,15 +297,9 @@ pub record LinesThen (after : State) (a : Answer) : Type 0 where
 abbrev pub LineRule : Type 0
 LineRule = (st : State) (start : ℕ) (memory : List ℕ) (s : Step) → (let o = stepOf st start memory s in LinesThen (o .state) (o .answer))
 
--- byte i of a word in its place, if enable bit i is set
-abbrev pub byteIf : ℕ → ℕ → ℕ → ℕ
-byteIf word enables i = cond (bit enables i) (byteOf i word * 2 ^ (8 * i)) 0
-
--- what a read answers: at the FIFO port the front word of a FIFO, else the enabled bytes of the register
+-- what a read answers: at the FIFO port the front word of a FIFO, else the whole register
 abbrev pub readThen : Side → State → Step → List ℕ → ℕ
-readThen side st s words =
-    let b = byteIf (register side st (s .offset)) (s .enables) in
-    cond (eqb (s .offset) 0x20) (front words) (b 0 + b 1 + b 2 + b 3)
+readThen side st s words = cond (eqb (s .offset) 0x20) (front words) (register side st (s .offset))
 
 -- What a done step answers, a list by the kind's number: reads and writes of the host, of the card, the two cycles, the reset.
 -- PCI reads the FIFO that the Add-On feeds, and the Add-On the other. A cycle answers the address before the step,

@@ -1,11 +1,9 @@
 -- What the tests of the code need of the machine's.
 use Prim.Native.Nat.{ℕ, zero, suc, _≤_, _<_}
 use mathlib.Core.Path.{_≡_, refl}
-use mathlib.Core.Bool.{Bool, true, false, cond, not, _||_, and-false, false≢true, true≢false}
-use mathlib.Core.List.{[], _∷_}
+use mathlib.Core.Bool.{Bool, true, false, cond, not, and-false, false≢true, true≢false}
 use native.Mathlib.Omega.{arith}
 use borrow.Author.Tests.{ne-eqb}
-use Rattle.machine.specs.Words.{anyOf}
 use Rattle.machine.specs.Sides.{pci, addon, host, card, sameParty}
 use Rattle.machine.specs.State.{State}
 use Rattle.machine.specs.Access.{Access, Kind, reading, writing, cycle, chipReset, unknown, kindOf, isAccess}
@@ -64,18 +62,6 @@ at-port x h = rw h (simp and-false)
 pub elsewhere : (st : State) (x : Access) → (x .offset ≡ 0x20 → ⊥) → isFullOrEmpty st x ≡ false
 unfolding isFullOrEmpty
 elsewhere st x h = simp (ne-eqb _ _ h, and-false)
-
--- tests, one after the other
-pub four : (a b c d : Bool) → (a || b || c || d) ≡ anyOf (a ∷ b ∷ c ∷ d ∷ [])
-four true b c d = refl
-four false true c d = refl
-four false false true d = refl
-four false false false true = refl
-four false false false false = refl
-
-pub five : (a b c d e : Bool) → (a || b || c || d || e) ≡ anyOf (a ∷ b ∷ c ∷ d ∷ e ∷ [])
-five true b c d e = refl
-five false b c d e = four b c d e
 
 -- who owns a mailbox
 pub owned-by-host : (b : Bool) → sameParty (cond b host card) host ≡ b

@@ -11,7 +11,7 @@ use Rattle.laws.proofs.Tests.{none-applies, neither, and-at, or-right}
 use Rattle.laws.proofs.Bits.{bit-zero}
 use Rattle.laws.proofs.Done.{room-to-write}
 use borrow.Author.Tests.{eqb-true, eqb-false, lt-ltb, ne-eqb, not-false}
-use Rattle.machine.specs.Words.{raised, shown, written}
+use Rattle.machine.specs.Words.{raised, written}
 use Rattle.machine.specs.Commands.{clearsFifo}
 use Rattle.fifo.specs.Ring.{from}
 use Rattle.machine.specs.Sides.{Side, pci, addon, other, Party, host, card}
@@ -163,11 +163,11 @@ module _ (st : State) (s : Step) (elsewhere : s .offset ≡ 0x20 → ⊥) (word 
   unfolding movedState addressAfter countAfter rightAfter interruptsAfter
   pci-write-state k = rw k (simp (ne-eqb (s .offset) 0x20 elsewhere))
 
-  pub pci-read-reply : (start : ℕ) (memory : List ℕ) → s .kind ≡ 0 → showing (shown (register pci st (s .offset)) (s .enables)) (changes (accessOf s) (st .marks)) ≡ doneReply (accessOf s .kind) st start memory (accessOf s)
+  pub pci-read-reply : (start : ℕ) (memory : List ℕ) → s .kind ≡ 0 → showing (register pci st (s .offset)) (changes (accessOf s) (st .marks)) ≡ doneReply (accessOf s .kind) st start memory (accessOf s)
   unfolding doneReply readValue
   pci-read-reply start memory k = rw k (simp (ne-eqb (s .offset) 0x20 elsewhere))
 
-  pub addon-read-reply : (start : ℕ) (memory : List ℕ) → s .kind ≡ 2 → showing (shown (register addon st (s .offset)) (s .enables)) (changes (accessOf s) (st .marks)) ≡ doneReply (accessOf s .kind) st start memory (accessOf s)
+  pub addon-read-reply : (start : ℕ) (memory : List ℕ) → s .kind ≡ 2 → showing (register addon st (s .offset)) (changes (accessOf s) (st .marks)) ≡ doneReply (accessOf s .kind) st start memory (accessOf s)
   unfolding doneReply readValue
   addon-read-reply start memory k = rw k (simp (ne-eqb (s .offset) 0x20 elsewhere))
 

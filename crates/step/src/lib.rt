@@ -122,7 +122,8 @@ fn addon_register(b: Bank, mail: &[u32], offset: u32) -> u32
     mcsr::agcsts_read(b)
 }
 
-// A PCI read: at the port the front word of the FIFO from the Add-On leaves; elsewhere marks may change, which is an event of AINT.
+// A PCI read: at the port the front word of the FIFO from the Add-On leaves; elsewhere the register is shown whole, and marks of enabled bytes may change,
+// which is an event of AINT.
 fn pci_read(b: Bank, mail: &[u32], addon: &[u32], s: Step) -> Banked
     requires { ⌜ s .kind ≡ 0 ⌝ }
     ensures { λ r. ⌜ ((pci : List ℕ) → Accessed s (stateIn b (now (mail .entry)) pci (now (addon .entry))) (outcomeIn r (now (mail .entry)) pci (now (addon .entry)))) ⌝ }
@@ -140,7 +141,7 @@ fn pci_read(b: Bank, mail: &[u32], addon: &[u32], s: Step) -> Banked
         next.addon_fill = n;
         return answered(next, codes::DONE, 0, x, 0, 0);
     }
-    let x = word::shown(pci_register(b, mail, s.offset), s.enables);
+    let x = pci_register(b, mail, s.offset);
     let changed = mailboxes::changes(s, b.marks);
     let a = interrupts::notified(b.aint, changed);
     next.marks = b.marks ^ changed;
@@ -166,7 +167,7 @@ fn addon_read(b: Bank, mail: &[u32], pci: &[u32], s: Step) -> Banked
         next.pci_fill = n;
         return answered(next, codes::DONE, 0, x, 0, 0);
     }
-    let x = word::shown(addon_register(b, mail, s.offset), s.enables);
+    let x = addon_register(b, mail, s.offset);
     let changed = mailboxes::changes(s, b.marks);
     let i = interrupts::notified(b.intcsr, changed);
     next.marks = b.marks ^ changed;

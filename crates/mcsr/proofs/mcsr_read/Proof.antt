@@ -7,7 +7,7 @@ use Rattle.machine.specs.Mcsr.{mcsrStatus, mcsrRead}
 use Rattle.fifo.specs.Ring.{from}
 use Rattle.fifo.proofs.Ring.{length-from}
 use Rattle.bank.specs.Bank.{stateIn}
-use Rattle.mcsr.proofs.Laws.{status-small}
+use Rattle.laws.proofs.Status.{status-small}
 use borrow.Author.Needs.{needs}
 use Rattle.mcsr.proofs.mcsr_read.Statement.{statement}
 use Rattle.mcsr.proofs.mcsr_read.Tie as tie

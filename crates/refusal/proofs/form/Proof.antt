@@ -8,7 +8,7 @@ use Rattle.machine.specs.Code.{isOutOfForm}
 use Rattle.fifo.proofs.Ring.{length-from}
 use Rattle.bank.specs.Bank.{stateIn}
 use Rattle.refusal.specs.Codes.{formCode}
-use Rattle.refusal.proofs.Tables.{five}
+use Rattle.laws.proofs.Tests.{any-five}
 use borrow.Author.Needs.{needs}
 use Rattle.refusal.proofs.form.Statement.{statement}
 use Rattle.refusal.proofs.form.Tie as tie
@@ -24,7 +24,7 @@ whole c mail pci addon =
     let a = c .is-lane-out-of-form2 in
     let read = c .before .before .before .before .before .is-read-ended .ensures mail pci addon in
     let write = c .before .before .before .is-write-ended .ensures mail pci addon in
-    five (p .result) (a .result) (not (c .before .before .before .before .before .before .before .before .is-only .result)) (not (c .before .before .before .before .before .before .before .is-only2 .result)) (not (c .before .before .before .before .before .before .is-only3 .result))
+    any-five (p .result) (a .result) (not (c .before .before .before .before .before .before .before .before .is-only .result)) (not (c .before .before .before .before .before .before .before .is-only2 .result)) (not (c .before .before .before .before .before .before .is-only3 .result))
     ∙ (λ i.
     anyOf
     ((p .ensures ∙ (λ j. anyOf (ltb 8 (sym (length-from 8 0 pci (b .«pci_head») (b .«pci_fill» .0)) j) ∷ not (eqb (b .«read_address» % 4) 0) ∷ ltb 0x03FF_FFFF (b .«read_count» .0) ∷ (b .«read_right» && read j) ∷ []))) i

@@ -5,10 +5,11 @@ use Prim.Native.Nat.{_-_}
 use lib.Dec.{eqb}
 use lib.ListN.{length}
 use Rattle.machine.specs.Words.{anyOf}
+use Rattle.laws.proofs.Tests.{any-five}
 use Rattle.fifo.specs.Ring.{from}
 use Rattle.fifo.proofs.Ring.{length-from}
 use Rattle.bank.specs.Bank.{stateIn}
-use Rattle.rights.proofs.Ends.{no-room, five}
+use Rattle.rights.proofs.Ends.{no-room}
 use borrow.Author.Needs.{needs}
 use Rattle.rights.proofs.is_read_ended.Statement.{statement}
 use Rattle.rights.proofs.is_read_ended.Tie as tie
@@ -21,7 +22,7 @@ returns c = λ mail pci addon.
     let z = f .before in
     let b = z .before .before .args .b in
     let none : z .before .is-full .result ≡ eqb (8 - length (from 8 0 pci (b .«pci_head») (b .«pci_fill» .0))) 0 = z .before .is-full .ensures ∙ sym (no-room (b .«pci_fill» .0)) ∙ rw (length-from 8 0 pci (b .«pci_head») (b .«pci_fill» .0)) in
-    five (z .before .is-full .result) (z .is-zero .result) (not (f .bit .result)) (not (e .bit2 .result)) (c .is-abort-in .result)
+    any-five (z .before .is-full .result) (z .is-zero .result) (not (f .bit .result)) (not (e .bit2 .result)) (c .is-abort-in .result)
     ∙ (λ i. anyOf (none i ∷ z .is-zero .ensures i ∷ not (f .bit .ensures i) ∷ not (e .bit2 .ensures i) ∷ c .is-abort-in .ensures i ∷ []))
 
 pub is-read-ended-spec : {M : Type 1} → statement M

@@ -45,17 +45,17 @@ addon-register-requires c κs =
 returns-3 : tie.Need-returns-3
 unfolding stateIn
 returns-3 c = λ addon start memory.
-    let a = c .before .before .before .before .before .before .before .before .before .before .before .before .args in
-    let k = c .before .before .before .before .before .before .before .before .before .before .before .before .pre in
-    let code = c .before .before .before .before .before .before .before .before .before .access-code in
-    let away = c .before .before .before .before .before .before .if2 .left in
+    let a = c .before .before .before .before .before .before .before .before .before .before .before .args in
+    let k = c .before .before .before .before .before .before .before .before .before .before .before .pre in
+    let code = c .before .before .before .before .before .before .before .before .access-code in
+    let away = c .before .before .before .before .before .if2 .left in
     let st = stateIn (a .b) (now (a .mail)) (now (a .pci)) addon in
     rw (c .answered3 .ensures .0)
-    (done-step st start memory (accessOf (a .s)) (accessCode st (accessOf (a .s))) _ (showing (c .before .before .before .before .shown .result) (c .before .before .before .changes .result)) _
-    (sym (code .ensures .1 (now (a .mail)) (now (a .pci)) addon) ∙ c .before .before .before .before .before .before .before .before .if1 .left)
+    (done-step st start memory (accessOf (a .s)) (accessCode st (accessOf (a .s))) _ (showing (c .before .before .before .before .addon-register .result) (c .before .before .before .changes .result)) _
+    (sym (code .ensures .1 (now (a .mail)) (now (a .pci)) addon) ∙ c .before .before .before .before .before .before .before .if1 .left)
     (rw k) (rw k)
-    (rw (c .before .before .before .before .shown .ensures, c .before .before .before .before .before .addon-register .ensures away (now (a .pci)) addon, c .before .before .before .changes .ensures) (addon-read-reply st (a .s) away 0 start memory k))
-    (rw (c .before .before .notified .ensures, c .before .before .before .changes .ensures) (addon-read-state st (a .s) away (c .before .before .before .before .shown .result) k))
+    (rw (c .before .before .before .before .addon-register .ensures away (now (a .pci)) addon, c .before .before .before .changes .ensures) (addon-read-reply st (a .s) away 0 start memory k))
+    (rw (c .before .before .notified .ensures, c .before .before .before .changes .ensures) (addon-read-state st (a .s) away (c .before .before .before .before .addon-register .result) k))
     (c .answered3 .ensures .1 (now (a .mail)) (now (a .pci)) addon))
 
 pub addon-read-spec : {M : Type 1} → statement M
@@ -71,7 +71,6 @@ addon-read-spec =
     (λ c κs. search needs)
     returns-2
     addon-register-requires
-    (λ c κs. search needs)
     (λ c κs. search needs)
     (λ c κs. search needs)
     (λ c κs. search needs)

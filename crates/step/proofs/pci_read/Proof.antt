@@ -39,17 +39,17 @@ returns-2 c = λ pci start memory.
 returns-3 : tie.Need-returns-3
 unfolding stateIn
 returns-3 c = λ pci start memory.
-    let a = c .before .before .before .before .before .before .before .before .before .before .before .before .args in
-    let k = c .before .before .before .before .before .before .before .before .before .before .before .before .pre in
-    let code = c .before .before .before .before .before .before .before .before .before .access-code in
-    let away = c .before .before .before .before .before .before .if2 .left in
+    let a = c .before .before .before .before .before .before .before .before .before .before .before .args in
+    let k = c .before .before .before .before .before .before .before .before .before .before .before .pre in
+    let code = c .before .before .before .before .before .before .before .before .access-code in
+    let away = c .before .before .before .before .before .if2 .left in
     let st = stateIn (a .b) (now (a .mail)) pci (now (a .addon)) in
     rw (c .answered3 .ensures .0)
-    (done-step st start memory (accessOf (a .s)) (accessCode st (accessOf (a .s))) _ (showing (c .before .before .before .before .shown .result) (c .before .before .before .changes .result)) _
-    (sym (code .ensures .1 (now (a .mail)) pci (now (a .addon))) ∙ c .before .before .before .before .before .before .before .before .if1 .left)
+    (done-step st start memory (accessOf (a .s)) (accessCode st (accessOf (a .s))) _ (showing (c .before .before .before .before .pci-register .result) (c .before .before .before .changes .result)) _
+    (sym (code .ensures .1 (now (a .mail)) pci (now (a .addon))) ∙ c .before .before .before .before .before .before .before .if1 .left)
     (rw k) (rw k)
-    (rw (c .before .before .before .before .shown .ensures, c .before .before .before .before .before .pci-register .ensures pci (now (a .addon)), c .before .before .before .changes .ensures) (pci-read-reply st (a .s) away 0 start memory k))
-    (rw (c .before .before .notified .ensures, c .before .before .before .changes .ensures) (pci-read-state st (a .s) away (c .before .before .before .before .shown .result) k))
+    (rw (c .before .before .before .before .pci-register .ensures pci (now (a .addon)), c .before .before .before .changes .ensures) (pci-read-reply st (a .s) away 0 start memory k))
+    (rw (c .before .before .notified .ensures, c .before .before .before .changes .ensures) (pci-read-state st (a .s) away (c .before .before .before .before .pci-register .result) k))
     (c .answered3 .ensures .1 (now (a .mail)) pci (now (a .addon))))
 
 pub pci-read-spec : {M : Type 1} → statement M
@@ -64,7 +64,6 @@ pci-read-spec =
     (λ c κs. search needs)
     (λ c κs. search needs)
     returns-2
-    (λ c κs. search needs)
     (λ c κs. search needs)
     (λ c κs. search needs)
     (λ c κs. search needs)
