@@ -12,7 +12,7 @@ extern "C" {
 #endif
 
 /* The version of the model, as ./s5933-log --version prints it. */
-#define S5933_VERSION "1.5"
+#define S5933_VERSION "1.6"
 
 /* The longest input, in bytes. */
 #define S5933_INPUT_MOST 1048576
@@ -29,7 +29,13 @@ extern "C" {
 #define S5933_INPUT_TOO_LONG (-2)
 #define S5933_UNKNOWN_SET (-3)
 
-/* The codes, by their English labels. README.md says when each is given. The last is the log program's alone. */
+/* The most words of a window. */
+#define S5933_WINDOW_MOST 16384
+
+/*
+ * The codes, by their English labels. README.md says when each is given. 15 is the log program's alone; 16 to 19 and 24 are of windows as
+ * Intel HEX, where s5933_hex_length, s5933_hex_export and s5933_hex_load return a code with a minus, as -S5933_WRONG_SUM.
+ */
 enum {
     S5933_DONE = 0,
     S5933_STATE_OUT_OF_FORM = 1,
@@ -46,7 +52,12 @@ enum {
     S5933_FIFO_NOT_READY = 12,
     S5933_NO_MEMORY_THERE = 13,
     S5933_NOT_A_FRAME_LINE = 14,
-    S5933_UNKNOWN_LABEL_SET = 15
+    S5933_UNKNOWN_LABEL_SET = 15,
+    S5933_NOT_A_HEX_RECORD = 16,
+    S5933_WRONG_SUM = 17,
+    S5933_OUTSIDE_THE_WINDOW = 18,
+    S5933_NO_END_OR_NOT_LAST = 19,
+    S5933_OUTPUT_TOO_SHORT = 24
 };
 
 /* The fields of a log line: where each begins, and its digits. Behind the space stands the label, as far as the LF. */
@@ -153,6 +164,55 @@ static inline int64_t s5933_number(const uint8_t *line, size_t at, size_t digits
  * length says, and the output overlaps neither the input nor anything that is in use elsewhere during the call.
  */
 int64_t s5933_log(const uint8_t *input, size_t input_length, uint8_t *output, size_t output_length, uint32_t set);
+
+/*
+ * A window, a run of 32-bit words from a start address on, as Intel HEX: records of the types 00 (bytes), 01 (the end) and 04 (the upper 16
+ * bits of the addresses that follow), each a line of upper-case digits that begins with a colon and is ended by LF, its bytes, the last
+ * among them, summing to 0 modulo 256. A word's lowest byte stands at its own address, the next one above. A window may wrap: past FFFFFFFC
+ * it goes on at 0.
+ *
+ * A window is out of form if its start is no multiple of 4 or it has more than S5933_WINDOW_MOST words. The three calls look at that first.
+ * A refusal is returned as its code with a minus. Calls are independent of each other, and threads may call at the same time, each with
+ * words and an output that no other call writes. The caller owes what C cannot say, as above: no null pointer, not even for a length of 0,
+ * as many words or bytes as each length says, words that are aligned as uint32_t is, and no overlap with what is written.
+ */
+
+/*
+ * How many bytes the export of so many words from a start on has, whatever the words are; or -S5933_WINDOW_OUT_OF_FORM.
+ */
+int64_t s5933_hex_length(size_t count, uint32_t start);
+
+/*
+ * Writes the export of a window from the output's start: a record 04 first and wherever the upper 16 bits change, records 00 of 16 bytes,
+ * shorter only before such a change and at the end, and last :00000001FF. For no words that is the first record and the last. It is not
+ * ended by a NUL.
+ *
+ * Returns, the first that applies,
+ *   -S5933_WINDOW_OUT_OF_FORM (-2);
+ *   -S5933_OUTPUT_TOO_SHORT (-24) if the output is shorter than s5933_hex_length says;
+ *   the number of bytes written.
+ *
+ * No byte of the output is written where it refuses, and none past the text. The words are not changed.
+ */
+int64_t s5933_hex_export(const uint32_t *words, size_t count, uint32_t start, uint8_t *output, size_t output_length);
+
+/*
+ * Loads a text into a window. Records come in any order and with any number of bytes, none too; before the first record 04 the upper 16
+ * bits are 0; bytes past offset FFFF go on at the next address, after FFFFFFFF at 0. Where two records say a byte, the later holds; bytes
+ * that no record says stay as they are. The whole text is checked before the first word is stored.
+ *
+ * Returns, the first that applies, and of the codes from 16 on the one of the first record that has one,
+ *   -S5933_WINDOW_OUT_OF_FORM (-2);
+ *   -S5933_NOT_A_HEX_RECORD (-16) for anything that is no record of these types: an empty line, lower case, CR, another type, a record 04
+ *     of other than 2 bytes, a record 01 of any, either at another offset than 0, bytes that no LF ends;
+ *   -S5933_WRONG_SUM (-17);
+ *   -S5933_OUTSIDE_THE_WINDOW (-18) if a byte of the record lies outside the window;
+ *   -S5933_NO_END_OR_NOT_LAST (-19) if the text ends without a record 01, or any byte stands behind it, which is read no further;
+ *   0 (S5933_DONE), and the words hold what the text says.
+ *
+ * No word is changed where it refuses.
+ */
+int64_t s5933_hex_load(uint32_t *words, size_t count, uint32_t start, const uint8_t *text, size_t text_length);
 
 #ifdef __cplusplus
 }

@@ -8,29 +8,19 @@
  * stands at the end or at the start of its pages, next to a page that
  * can't be touched. After the call every byte of the output's pages is
  * compared: the log, and the pattern everywhere else. */
-#define _GNU_SOURCE
 #include "s5933.h"
+#include "guard.h"
 #include "model.h"
 
-#include <signal.h>
 #include <stdio.h>
 #include <stdlib.h>
 #include <string.h>
 #include <sys/mman.h>
-#include <unistd.h>
 
 enum {
-    PAGE = 4096, GUARD = 16 * PAGE,
     FRAME_DIGITS = 13, MEMORY_WORDS = 4096,
     OUTPUT_MOST = S5933_INPUT_MOST * S5933_LINE_ROOM + 1,
-    PATTERN_PERIOD = 251, PATTERN_SIZE = OUTPUT_MOST + PAGE + PATTERN_PERIOD,
     SIZES = 4
-};
-
-/* Pages between two guards. */
-struct pages {
-    uint8_t *start;
-    size_t size;
 };
 
 /* An input, and what documents 01 and 02 ask for: a log in each set. */
@@ -42,64 +32,12 @@ struct text {
     size_t log_length[SETS];
 };
 
-/* Where a buffer stands in its pages. */
-enum place { AT_START, AT_END, PLACES };
-
 static const uint32_t no_set[] = { SETS, 256, 0xFFFFFFFF };
 
 /* Pages of several sizes, so that a small buffer costs little. */
 static const size_t sizes[SIZES] = { PAGE, 1 << 16, 1 << 22, OUTPUT_MOST };
 static struct pages inputs[SIZES], outputs[SIZES];
-static uint8_t *pattern;        /* longer than any output by a period */
 static unsigned long calls;
-static char current[128];       /* the call under way */
-
-/* ---- failing ---- */
-
-static void on_fault(int signal)
-{
-    static const char message[] = "attack: memory fault in ";
-    ssize_t n = write(STDOUT_FILENO, message, sizeof message - 1);
-
-    (void)signal;
-    n += write(STDOUT_FILENO, current, strlen(current));
-    n += write(STDOUT_FILENO, "\n", 1);
-    _exit(n > 0 ? 1 : 2);
-}
-
-static void fail(const char *what)
-{
-    printf("attack: %s: %s\n", current, what);
-    exit(1);
-}
-
-static void *must(void *got)
-{
-    if (got == NULL || got == MAP_FAILED) {
-        perror("attack");
-        exit(2);
-    }
-    return got;
-}
-
-static void protect(const struct pages *p, int access)
-{
-    if (mprotect(p->start, p->size, access) != 0) {
-        perror("attack");
-        exit(2);
-    }
-}
-
-static struct pages new_pages(size_t bytes)
-{
-    size_t size = (bytes + PAGE - 1) / PAGE * PAGE;
-    uint8_t *all = must(mmap(NULL, size + 2 * GUARD, PROT_NONE,
-                             MAP_PRIVATE | MAP_ANONYMOUS, -1, 0));
-    struct pages p = { all + GUARD, size };
-
-    protect(&p, PROT_READ | PROT_WRITE);
-    return p;
-}
 
 /* ---- what documents 01 and 02 ask for ---- */
 
@@ -200,18 +138,6 @@ static void free_text(struct text *t)
 
 /* ---- a call ---- */
 
-static const struct pages *fitting(const struct pages *p, size_t n)
-{
-    while (p->size < n)
-        p++;
-    return p;
-}
-
-static uint8_t *placed(const struct pages *p, enum place where, size_t n)
-{
-    return where == AT_START ? p->start : p->start + p->size - n;
-}
-
 static int64_t wanted(const struct text *t, size_t output_length,
                       uint32_t set)
 {
@@ -247,7 +173,7 @@ static void call(const struct text *t, enum place in_place,
 {
     const struct pages *in = fitting(inputs, t->length);
     const struct pages *out = fitting(outputs, output_length);
-    const uint8_t *fill = pattern + calls % PATTERN_PERIOD;
+    const uint8_t *fill = next_pattern();
     uint8_t *input = placed(in, in_place, t->length);
     uint8_t *output = placed(out, out_place, output_length);
     int64_t returned;
@@ -304,15 +230,6 @@ static void attack(const char *name, const uint8_t *bytes, size_t length)
 }
 
 /* ---- inputs ---- */
-
-static uint32_t random32(void)
-{
-    static uint64_t state = 5933;
-
-    state = state * UINT64_C(6364136223846793005)
-          + UINT64_C(1442695040888963407);
-    return (uint32_t)(state >> 32);
-}
 
 /* Lines of several sorts, the last one without LF. */
 static const uint8_t mixed[] =
@@ -457,17 +374,11 @@ static void frame_file(const char *name)
 
 static void set_up(void)
 {
-    struct sigaction action = { .sa_handler = on_fault };
-
-    sigaction(SIGSEGV, &action, NULL);
-    sigaction(SIGBUS, &action, NULL);
+    guard_set_up("attack", OUTPUT_MOST);
     for (int i = 0; i < SIZES; i++) {
         inputs[i] = new_pages(sizes[i]);
         outputs[i] = new_pages(sizes[i]);
     }
-    pattern = must(malloc(PATTERN_SIZE));
-    for (size_t i = 0; i < PATTERN_SIZE; i++)
-        pattern[i] = (uint8_t)(i % PATTERN_PERIOD);
 }
 
 int main(int argc, char **argv)

@@ -26,6 +26,25 @@ program=target/bin/s5933_log
 # shellcheck disable=SC2034
 archive=target/staticlib/libstation.a
 
+passed=0
+failed=0
+
+verdict() { # NAME FINDINGS: passed if there are none
+    if [ -z "$2" ]; then
+        passed=$((passed + 1))
+        echo "ok: $1"
+    else
+        failed=$((failed + 1))
+        printf 'FAILED: %s\n%s\n' "$1" "$2"
+    fi
+}
+
+finish() {
+    echo "$passed passed, $failed failed"
+    [ "$failed" = 0 ]
+    exit
+}
+
 has() { command -v "$1" >/dev/null; }
 
 # compiles COMPILER...: it makes a program of a small source text.

@@ -1,4 +1,5 @@
 pub mod Wrote
 pub mod Labels
 pub mod LogLine
+pub mod ToolLabels
 pub mod Promises

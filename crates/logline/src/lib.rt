@@ -9,6 +9,7 @@ ghost use Rattle.eight.specs.Written.{bytesOf};
 ghost use Rattle.logline.specs.Wrote.{Wrote};
 ghost use Rattle.logline.specs.Labels.{english, german, englishSet, isSet, labelOf};
 ghost use Rattle.logline.specs.LogLine.{numbers, unknownSet, lineIn};
+ghost use Rattle.logline.specs.ToolLabels.{toolLine, toolLineIn};
 use machine::Answer;
 
 // The most bytes that a log line has.
@@ -228,4 +229,64 @@ pub fn put_refusal(out: &mut [u8]) -> usize
         return 0;
     }
     put(out, 0, b"0F0000000000000000000 unknown label set\n")
+}
+
+// ---- refusals that answer no step and no line: of windows as HEX texts
+
+// The first code of these.
+const TOOL_CODES: u32 = 16;
+
+// Their lines in English, by the code less 16; a number without a label has none. Below, in German.
+fn put_tool_english(out: &mut [u8], code_less_16: u32) -> usize
+    requires { ⌜ 41 ≤ length (now out) ⌝ }
+    ensures { λ r. ⌜ Wrote (now (out .entry)) 0 (toolLine 0 (16 + code_less_16)) r (now (out .exit)) ⌝ }
+{
+    match code_less_16 {
+        0 => put(out, 0, b"100000000000000000000 not a HEX record\n"),
+        1 => put(out, 0, b"110000000000000000000 wrong sum\n"),
+        2 => put(out, 0, b"120000000000000000000 outside the window\n"),
+        3 => put(out, 0, b"130000000000000000000 no end or not last\n"),
+        4 => 0,
+        5 => 0,
+        6 => 0,
+        7 => 0,
+        8 => put(out, 0, b"180000000000000000000 output too short\n"),
+        _ => 0,
+    }
+}
+
+fn put_tool_german(out: &mut [u8], code_less_16: u32) -> usize
+    requires { ⌜ 41 ≤ length (now out) ⌝ }
+    ensures { λ r. ⌜ Wrote (now (out .entry)) 0 (toolLine 1 (16 + code_less_16)) r (now (out .exit)) ⌝ }
+{
+    match code_less_16 {
+        0 => put(out, 0, b"100000000000000000000 kein HEX-Satz\n"),
+        1 => put(out, 0, b"110000000000000000000 Summe falsch\n"),
+        2 => put(out, 0, b"120000000000000000000 nicht im Fenster\n"),
+        3 => put(out, 0, b"130000000000000000000 Ende fehlt/frueh\n"),
+        4 => 0,
+        5 => 0,
+        6 => 0,
+        7 => 0,
+        8 => put(out, 0, b"180000000000000000000 Ausgabe zu kurz\n"),
+        _ => 0,
+    }
+}
+
+// Writes the line of such a refusal, with the label of a set, at the output's start, and answers the place past it. It writes
+// nothing where there is no room for 41 bytes, for another code, and for a number that is no set.
+pub fn put_tool_refusal(out: &mut [u8], code: u32, set: u32) -> usize
+    ensures { λ r. ⌜ Wrote (now (out .entry)) 0 (toolLineIn set (now (out .entry)) code) r (now (out .exit)) ⌝ }
+{
+    if out.len() < LINE_ROOM {
+        return 0;
+    }
+    if code < TOOL_CODES {
+        return 0;
+    }
+    match set {
+        0 => put_tool_english(out, code - TOOL_CODES),
+        1 => put_tool_german(out, code - TOOL_CODES),
+        _ => 0,
+    }
 }

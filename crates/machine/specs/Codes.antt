@@ -1,4 +1,5 @@
--- The codes: 0 to 13 answer a step, 14 a line that is no frame, 15 an unknown label set. An answer is chosen by its number, never by its label.
+-- The codes: 0 to 13 answer a step, 14 a line that is no frame, 15 an unknown label set; 16 to 19 refuse the load of a HEX text, 24 its export
+-- (document 02, Ask 7). An answer is chosen by its number, never by its label.
 use Prim.Native.Nat.{ℕ}
 
 abbrev pub done : ℕ
@@ -48,3 +49,18 @@ notAFrameLine = 14
 
 abbrev pub unknownLabelSet : ℕ
 unknownLabelSet = 15
+
+abbrev pub notAHexRecord : ℕ
+notAHexRecord = 16
+
+abbrev pub wrongSum : ℕ
+wrongSum = 17
+
+abbrev pub outsideTheWindow : ℕ
+outsideTheWindow = 18
+
+abbrev pub noEndOrNotLast : ℕ
+noEndOrNotLast = 19
+
+abbrev pub outputTooShort : ℕ
+outputTooShort = 24

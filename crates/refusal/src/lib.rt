@@ -34,7 +34,7 @@ fn is_lane_out_of_form(fill: WordFill, address: u32, count: ByteCount, wrong: bo
 }
 
 // Code 2, window out of form.
-fn is_window_out_of_form(start: u32, words: usize) -> bool
+pub fn is_window_out_of_form(start: u32, words: usize) -> bool
     ensures { λ r. ⌜ r ≡ isWindowOutOfForm start words ⌝ }
 {
     (start % WORD_BYTES != 0) | (WINDOW_MAX < words)

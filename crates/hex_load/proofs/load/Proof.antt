@@ -1,0 +1,36 @@
+use denote.Ref.{now}
+use mathlib.Core.Path.{sym, _∙_}
+use lib.ListN.{length}
+use Rattle.records.proofs.Promises.{good-window}
+use Rattle.hex_load.proofs.Loads.{load-bad, load-refused, load-done}
+use borrow.Author.Needs.{needs}
+use Rattle.hex_load.proofs.load.Statement.{statement}
+use Rattle.hex_load.proofs.load.Tie as tie
+
+returns : tie.Need-returns
+returns c = let a = c .before .before .before .before .args in load-bad (a .start) (now (a .memory)) (now (a .text)) (sym (c .before .is-window-out-of-form .ensures) ∙ c .if1 .taken)
+
+text-code-requires : tie.Need-text-code-requires
+text-code-requires c κs =
+    let a = c .before .before .before .before .args in
+    good-window (a .start) (length (now (a .memory))) (sym (c .before .is-window-out-of-form .ensures) ∙ c .if1 .left)
+
+returns-2 : tie.Need-returns-2
+returns-2 c =
+    let s = c .before .before in
+    let i = s .before .before in
+    let k = i .before in
+    let w = k .before in
+    let a = w .before .before .before .before .args in
+    load-done (a .start) (now (a .memory)) (now (a .text)) (k .text-code .result) (sym (w .before .is-window-out-of-form .ensures) ∙ w .if1 .left) (k .text-code .ensures) _ (i .if2 .taken) (s .store-text .ensures) (λ j h. c .slice-known2 .given j .fits)
+
+returns-3 : tie.Need-returns-3
+returns-3 c =
+    let k = c .before in
+    let w = k .before in
+    let a = w .before .before .before .before .args in
+    load-refused (a .start) (now (a .memory)) (now (a .text)) (k .text-code .result) (sym (w .before .is-window-out-of-form .ensures) ∙ w .if1 .left) (k .text-code .ensures) (c .if2 .left)
+
+pub load-spec : {M : Type 1} → statement M
+load-spec =
+    tie.close (tie.spec (λ c κs. search needs) returns text-code-requires (λ c κs. search needs) (λ c. search needs) returns-2 returns-3)

@@ -1,0 +1,74 @@
+-- What the C calls for windows make of an answer.
+--     minus-is, minus-fits     a code with a minus
+--     length-fits, export-fits     the length of a text is a number of theirs
+use Prim.Native.Nat.{ℕ, zero, suc, _-_, _*_, _%_, _^_, min, _<_, _≤_}
+use mathlib.Core.Path.{_≡_, refl, sym, ap, _∙_}
+use mathlib.Core.Bool.{Bool, true, false, cond}
+use mathlib.Core.List.{List, _++_}
+use native.Mathlib.Omega.{arith}
+use lib.IntN.{ℤ, pos, negsuc, negℤ, _-ℤ_}
+use lib.ListN.{length, drop}
+use lib.Dec.{ltb, eqb}
+use borrow.Author.Tests.{lt-ltb}
+use mir.Syntax.{w64}
+use mir.Val.{SFits, toZ, ofZ}
+use mir.ValLaws.{toZ-pos, toZ-ofZ}
+use Rattle.machine.specs.Window.{isWindowOutOfForm}
+use Rattle.records.specs.Export.{exportOf, exportLength}
+use Rattle.records.proofs.Length.{export-length}
+use Rattle.records.proofs.Promises.{good-window}
+use Rattle.hex_export.specs.declared.Exported.the-variants.{Written, Refused}
+use Rattle.hex_export.specs.Results.{Export, lengthOf, exportedTo}
+use Rattle.station.specs.HexCalls.{minusCode, Fits, ExportUnique, LoadUnique}
+
+zero-minus : (n : ℕ) → pos 0 -ℤ pos n ≡ negℤ (pos n)
+zero-minus zero = refl
+zero-minus (suc n) =
+    let one : suc n - 1 ≡ n = omega arith in
+    rw (lt-ltb 0 (suc n) (omega arith)) (ap negsuc one)
+
+module _ (n : ℕ) (h : n < 2 ^ 32) where
+  pub minus-is : pos 0 -ℤ toZ w64 n ≡ minusCode n
+  minus-is = ap (λ (z : ℤ). pos 0 -ℤ z) (toZ-pos w64 n (omega arith)) ∙ zero-minus n
+
+  small : (n : ℕ) → n < 2 ^ 32 → SFits w64 (negℤ (pos n))
+  small zero k = record { sfits = omega arith }
+  small (suc n) k = record { sfits = omega arith }
+
+  pub minus-fits : SFits w64 (pos 0 -ℤ toZ w64 n)
+  minus-fits = rw minus-is (small n h)
+
+  pub minus-back : toZ w64 (ofZ w64 (pos 0 -ℤ toZ w64 n)) ≡ minusCode n
+  minus-back = toZ-ofZ w64 _ minus-fits ∙ minus-is
+
+upper-small : (t : Bool) → cond t 0 16 ≤ 16
+upper-small true = omega arith
+upper-small false = omega arith
+
+length-small : (start words : ℕ) → words ≤ 16384 → exportLength start words < 2 ^ 63
+unfolding exportLength
+length-small start words h = omega (arith, upper-small (eqb (4 * words - min (4 * words) (65536 - start % 65536)) 0))
+
+pub length-fits : (start words : ℕ) → Fits (lengthOf start words)
+unfolding lengthOf
+length-fits start words = by (isWindowOutOfForm start words) refl
+  where
+    by : (t : Bool) → isWindowOutOfForm start words ≡ t → Fits (cond t (Refused 2) (Written (exportLength start words)))
+    by true e = tt
+    by false e = length-small start words (good-window start words e)
+
+pub export-fits : (start : ℕ) (words out : List ℕ) → Fits (exportedTo start words out .answer)
+unfolding exportedTo
+export-fits start words out = by (isWindowOutOfForm start (length words)) refl (ltb (length out) (length (exportOf start words)))
+  where
+    by : (t : Bool) → isWindowOutOfForm start (length words) ≡ t → (u : Bool)
+        → Fits (cond {A = Export} t (record { answer = Refused 2; out = out }) (cond u (record { answer = Refused 24; out = out }) (record { answer = Written (length (exportOf start words)); out = exportOf start words ++ drop (length (exportOf start words)) out })) .answer)
+    by true e u = tt
+    by false e true = tt
+    by false e false = rw (export-length start words (good-window start (length words) e)) (length-small start (length words) (good-window start (length words) e))
+
+pub export-unique : ExportUnique
+export-unique start words output r q after also p o = (p .result ∙ sym (o .result), p .written ∙ sym (o .written))
+
+pub load-unique : LoadUnique
+load-unique start words text r q after also p o = (p .result ∙ sym (o .result), p .stored ∙ sym (o .stored))

@@ -1,0 +1,174 @@
+# shellcheck shell=bash
+# What the commands s5933-log and s5933-hex share: building a program where that is needed, and running it. A command says its name,
+# its crate, the folder that it stands in, and, as an installed copy, its own folder; README.md says what the exit statuses mean.
+# shellcheck disable=SC2154
+target=$here/target program=${own:-$here/target/bin}/$crate version=${own:-$here}/VERSION
+
+say() { echo "$tool: $*" >&2; }
+die() { say "${@:2}"; exit "$1"; } # STATUS WORDS...
+
+# Process ids of what runs beside the script, that of a group with a minus. A signal that ends the script kills it too; none of
+# it has anything to put in order. After SIGKILL no script can do that: what is started by `bound` goes when the script does.
+started=()
+stop() { # SIGNAL
+    kill -KILL -- "${started[@]}" 2>/dev/null
+    wait "${started[@]#-}" 2>/dev/null
+    exit $((128 + $1))
+}
+trap 'stop 1' HUP
+trap 'stop 2' INT
+trap 'stop 3' QUIT
+trap 'stop 15' TERM
+bound=(setpriv --pdeathsig KILL)
+
+# ---- building: of the crates s5933_log and s5933_hex the programs, of station the archive
+
+declare -A file=([s5933_log]=$target/bin/s5933_log [s5933_hex]=$target/bin/s5933_hex [station]=$target/staticlib/libstation.a)
+declare -A verb=([s5933_log]=check [s5933_hex]=check [station]=staticlib)
+
+# One sum over all sources.
+sum_of_sources() {
+    (cd -- "$here" && find crates.txt crates/*/{src,specs,proofs} -type f -print0 | sort -z | xargs -0 sha256sum | sha256sum) 2>/dev/null
+}
+
+# unmade CRATE...: those whose file is missing, or was made of other sources: its mark, target/CRATE.sources, has their sum.
+unmade() {
+    local crate sum
+    sum=$(sum_of_sources)
+    for crate; do
+        [ -s "${file[$crate]}" ] && [ "$(cat "$target/$crate.sources" 2>/dev/null)" = "$sum" ] || echo "$crate"
+    done
+}
+
+# How many crates CRATE... are made of, themselves included and the kit's left out.
+count_crates() {
+    awk -F: -v names="$*" '/^[a-z]/ { uses[$1] = $2 }
+        END {
+            n = split(names, todo, " ")
+            for (i = 1; i <= n; i++) if (todo[i] in uses && !seen[todo[i]]++) {
+                count++
+                more = split(uses[todo[i]], use, " ")
+                for (k = 1; k <= more; k++) todo[++n] = use[k]
+            }
+            print count + 0
+        }' "$here/crates.txt"
+}
+
+# Progress, if the build takes longer than a moment: on a terminal one line that counts the seconds, else a line for each crate.
+declare -A proved=()
+shown=
+show_progress() {
+    local text="${#proved[@]} of $crates crates proved, $SECONDS s gone"
+    [ "$SECONDS" -ge 2 ] || return 0
+    [ -n "$shown" ] || say "building, which proves all that is built; from nothing this takes some minutes"
+    if [ -t 2 ]; then printf '\r%s: %s ' "$tool" "$text" >&2; elif [ "$shown" != "${#proved[@]}" ]; then say "$text"; fi
+    shown=${#proved[@]}
+}
+
+# run_rt WORDS...: rt, as a group of its own, so that all of it can be killed. What it printed is shown if it fails.
+run_rt() {
+    local line printed='' rt
+    exec 5< <(cd -- "$here" && exec setsid "${bound[@]}" rt "$@" 2>&1 </dev/null)
+    rt=$!
+    started=("-$rt" "$rt")
+    while IFS= read -r -t 1 -u 5 line || [ $? -gt 128 ]; do
+        printed+=${line:+$line$'\n'}
+        [[ ! $line =~ ^rt:\ ([a-z0-9_]+)\ proved && ! $line =~ ^rt:\ .*/lib([a-z0-9_]+)\.a ]] || proved[${BASH_REMATCH[1]}]=yes
+        show_progress
+    done
+    exec 5<&-
+    [ -z "$shown" ] || [ ! -t 2 ] || echo >&2
+    wait "$rt" || { printf '%s' "$printed" >&2; die 2 "rt $* failed"; }
+    started=()
+}
+
+# The mark comes last. For rt its stamp of a program stands for the program, even if that is lost.
+make_file() { # CRATE
+    local sum
+    sum=$(sum_of_sources)
+    rm -f -- "$target/$1.sources"
+    [ "${verb[$1]}" != check ] || [ -s "${file[$1]}" ] || rm -f -- "$target/stamp/$1"
+    run_rt "${verb[$1]}" "$1"
+    [ -s "${file[$1]}" ] || die 2 "rt made no ${file[$1]}"
+    echo "$sum" >"$target/$1.sources"
+}
+
+# Makes what is unmade. One call at a time; all that a build starts holds its lock.
+build() { # CRATE...
+    local crate todo
+    [ -n "$(unmade "$@")" ] || return 0
+    command -v rt >/dev/null || die 2 "not built yet, and rt, of the Rattle kit, is not on the PATH"
+    { mkdir -p -- "$target" && exec 4>>"$target/s5933-log.lock"; } 2>/dev/null || die 2 "not built yet, and $target cannot be written"
+    if ! flock -n 4; then
+        say "another call is building; waiting for it"
+        "${bound[@]}" flock 4 &
+        started=($!)
+        wait $! || die 2 "no lock on $target/s5933-log.lock"
+    fi
+    SECONDS=0
+    mapfile -t todo < <(unmade "$@")
+    crates=$(count_crates "${todo[@]}")
+    for crate in "${todo[@]}"; do make_file "$crate"; done
+    exec 4>&-
+}
+
+# ---- running
+
+# The kit's programs and libraries for this machine; none without the kit.
+kit_tools() {
+    local rt
+    rt=$(command -v rt) || [ -n "${RATTLE_HOME:-}" ] || return
+    echo "${RATTLE_HOME:-$(dirname "$(dirname "$(readlink -f "$rt")")")}/on/$(uname -m)/toolchain"
+}
+
+# The program is x86-64 code. Elsewhere an emulator runs it, the kit's or the system's.
+find_emulator() { # TOOLS
+    local name
+    emulator=()
+    [ "$(uname -m)" != x86_64 ] || return 0
+    for name in "${1:+$1/bin/qemu-x86_64}" qemu-x86_64 qemu-x86_64-static; do
+        emulator=("$(command -v "$name")") && return
+    done
+    die 2 "this is x86-64 code, and neither rt, of the Rattle kit, nor qemu-x86_64 (Debian's package qemu-user) is on the PATH"
+}
+
+check_files() { # FILE...
+    local name
+    for name; do
+        [ "$name" != - ] || continue
+        [ -e "$name" ] || die 1 "$name: no such file"
+        [ ! -d "$name" ] || die 1 "$name: is a directory"
+        [ -r "$name" ] || die 1 "$name: may not be read"
+    done
+}
+
+# What the program needs to run.
+find_program() {
+    local tools
+    tools=$(kit_tools) || [ -n "$own" ] || die 2 "rt, of the Rattle kit, is not on the PATH"
+    find_emulator "$tools"
+    lib=${own:-$tools/lib}
+    loader=$lib/ld-linux-x86-64.so.2
+    { [ -r "$program" ] && [ -r "$loader" ]; } || die 2 "$program or $loader is missing"
+}
+
+# The program has no exit status of its own. It says in one digit on descriptor 3, a pipe without a name, how the run ended.
+# It reads standard input; `feeder` is the process id of what writes it, if that was started here.
+run() {
+    local status digit
+    exec 3<> <(:)
+    "${bound[@]}" "${emulator[@]}" "$loader" --library-path "$lib" "$program" <&0 &
+    started=($! ${feeder:+"$feeder"})
+    wait "${started[0]}" 2>/dev/null
+    status=$?
+    echo >&3 # so that there is a line, with a digit in it or without
+    read -r digit <&3
+    case $digit:$status in
+        0:*) [ -z "$feeder" ] || wait "$feeder" || exit 1; exit 0 ;;
+        [1-4]:*) exit "$digit" ;;
+        *:12[67]) exit 2 ;;
+        *:141) exit 141 ;; # SIGPIPE: nobody reads the output any more
+        *:129 | *:1[3-9][0-9]) die "$status" "signal $((status - 128)) ended the program" ;;
+        *) die 1 "the program ended before its input did" ;;
+    esac
+}
