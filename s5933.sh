@@ -8,18 +8,21 @@ say() { echo "$tool: $*" >&2; }
 die() { say "${@:2}"; exit "$1"; } # STATUS WORDS...
 
 # Process ids of what runs beside the script, that of a group with a minus. A signal that ends the script kills it too; none of
-# it has anything to put in order. After SIGKILL no script can do that: what is started by `bound` goes when the script does.
+# it has anything to put in order. (Without an id `wait` would wait for all there is.)
 started=()
 stop() { # SIGNAL
-    kill -KILL -- "${started[@]}" 2>/dev/null
-    wait "${started[@]#-}" 2>/dev/null
+    [ "${#started[@]}" = 0 ] || { kill -KILL -- "${started[@]}"; wait "${started[@]#-}"; } 2>/dev/null
     exit $((128 + $1))
 }
 trap 'stop 1' HUP
 trap 'stop 2' INT
 trap 'stop 3' QUIT
 trap 'stop 15' TERM
-bound=(setpriv --pdeathsig KILL)
+
+# After SIGKILL the script can kill nothing. What a child of the script becomes by `bound` is killed when the script ends, however it
+# ends, and does not begin if the script has gone already.
+# shellcheck disable=SC2016
+bound=(setpriv --pdeathsig KILL bash -p -c '[ "$PPID" = "$0" ] && exec "$@"' "$$")
 
 # ---- building: of the crates s5933_log and s5933_hex the programs, of station the archive
 
@@ -152,19 +155,35 @@ find_program() {
     { [ -r "$program" ] && [ -r "$loader" ]; } || die 2 "$program or $loader is missing"
 }
 
-# The program has no exit status of its own. It says in one digit on descriptor 3, a pipe without a name, how the run ended.
-# It reads standard input; `feeder` is the process id of what writes it, if that was started here.
+# Standard input becomes what the command makes of it.
+feeders=()
+feed() { # COMMAND...
+    exec < <(exec "${bound[@]}" "$@")
+    feeders+=($!)
+}
+
+# The files, one after the other, as standard input.
+take_files() { # FILE...
+    if [ $# -gt 1 ]; then
+        feed cat -- "$@"
+    elif [ "${1:--}" != - ]; then
+        exec <"$1" || exit 1
+    fi
+}
+
+# The program has no exit status of its own. It says in one digit on descriptor 3, a pipe without a name, how the run ended. If all
+# went well for the program, it may still have got less than it should: a feeder may have failed.
 run() {
-    local status digit
+    local status digit feeder
     exec 3<> <(:)
     "${bound[@]}" "${emulator[@]}" "$loader" --library-path "$lib" "$program" <&0 &
-    started=($! ${feeder:+"$feeder"})
+    started=($! "${feeders[@]}")
     wait "${started[0]}" 2>/dev/null
     status=$?
     echo >&3 # so that there is a line, with a digit in it or without
     read -r digit <&3
     case $digit:$status in
-        0:*) [ -z "$feeder" ] || wait "$feeder" || exit 1; exit 0 ;;
+        0:*) for feeder in "${feeders[@]}"; do wait "$feeder" || exit 1; done; exit 0 ;;
         [1-4]:*) exit "$digit" ;;
         *:12[67]) exit 2 ;;
         *:141) exit 141 ;; # SIGPIPE: nobody reads the output any more

@@ -33,7 +33,7 @@ extern "C" {
 #define S5933_WINDOW_MOST 16384
 
 /*
- * The codes, by their English labels. README.md says when each is given. 15 is the log program's alone; 16 to 19 and 24 are of windows as
+ * The codes, by their English labels. README.md says when each is given. 15 is of the programs alone; 16 to 19 and 24 are of windows as
  * Intel HEX, where s5933_hex_length, s5933_hex_export and s5933_hex_load return a code with a minus, as -S5933_WRONG_SUM.
  */
 enum {
@@ -173,8 +173,9 @@ int64_t s5933_log(const uint8_t *input, size_t input_length, uint8_t *output, si
  *
  * A window is out of form if its start is no multiple of 4 or it has more than S5933_WINDOW_MOST words. The three calls look at that first.
  * A refusal is returned as its code with a minus. Calls are independent of each other, and threads may call at the same time, each with
- * words and an output that no other call writes. The caller owes what C cannot say, as above: no null pointer, not even for a length of 0,
- * as many words or bytes as each length says, words that are aligned as uint32_t is, and no overlap with what is written.
+ * words and an output that no other call writes. A call uses at most 1 KiB of stack, as measured. The caller owes what C cannot say, as
+ * above: no null pointer, not even for a length of 0, as many words or bytes as each length says, words that are aligned as uint32_t is,
+ * and no overlap with what is written.
  */
 
 /*

@@ -1,6 +1,6 @@
 # shellcheck shell=bash
-# What tests/outside, tests/faults and bench/bench share. Source it from the repository's top folder; it makes a temporary
-# folder, $work, that goes when the script ends.
+# What tests/outside, tests/faults, tests/hextools and bench/bench share. Source it from the repository's top folder; it makes a
+# temporary folder, $work, that goes when the script ends.
 export LC_ALL=C
 # shellcheck disable=SC2034
 profiles=(registers mailboxes fifos transfers aborts unknown broken resets all polls firmware bursts)
