@@ -3,29 +3,32 @@
 --     record-sum, no-record, none-says, some-says               the sum of its bytes
 --     not-record, bad-sum, no-data, all-in, one-out             its code, by the first test that applies
 --     rest-at                                                   the rest of the text, by its place
+--     head-parts, head-four, head-says                          its first four bytes
+--     record-fits, digits-from, content-bytes, upper-count      what one has that is a record
+--     zero-says, code-says                                      what no code tells of it
 use Prim.Native.Nat.{ℕ, zero, suc, _+_, _*_, _/_, _%_, _<_, _≤_}
-use mathlib.Core.Path.{_≡_, refl, sym, _∙_}
+use mathlib.Core.Path.{_≡_, refl, sym, ap, _∙_}
 use mathlib.Core.Bool.{Bool, true, false, true≢false, cond, _&&_}
 use mathlib.Core.List.{List, [], _∷_, _++_}
 use native.Mathlib.Nat.{add-zero}
 use native.Mathlib.Omega.{arith}
+use native.Mathlib.Decide.{ℕ-discrete}
 use lib.ListN.{length, getD, take, drop, length-drop}
 use lib.Seq.{drop-drop, getD-drop}
 use lib.Dec.{ltb, eqb}
-use borrow.Author.Tests.{ne-eqb, ltb-true, le-ltb}
+use borrow.Author.Tests.{ne-eqb, eqb-true, ltb-true, le-ltb}
 use Rattle.laws.proofs.Below.{both}
-use Rattle.eight.specs.Packed.{numberOr}
-use Rattle.records.specs.Window.{windowBytes}
+use Rattle.eight.specs.Packed.{apart, Each, saidIn, bytesOr}
 use Rattle.hex.specs.Hex.{allDigits}
 use Rattle.hex.proofs.Numbers.{all-append}
 use Rattle.records.specs.Record.{total}
 use Rattle.records.proofs.Bytes.{total-append}
 use Rattle.records.proofs.Read.{bytes-one}
 use Rattle.records.proofs.Exactly.{in-take, in-length, byte-low}
-use Rattle.hex_load.specs.Sums.{none, sumFrom, recordSum, headIn}
-use Rattle.hex_load.proofs.Sums.{take-split, in-append, there, number-some, quad-sum}
-use Rattle.hex_load.proofs.Texts.{quad-bytes}
-use Rattle.records.specs.Load.{bytesIn, byteIn, bytesAt, digitsIn, totalIn, kindIn, countIn, offsetIn, addressIn, restOf, isKind, isRecord, allInside, recordCode}
+use Rattle.hex_load.specs.Sums.{none, sumFrom, recordSum, headIn, partsSum, FourBytes}
+use Rattle.hex_load.proofs.Sums.{take-split, take-eight, all-part, in-append, there, said-bytes, quad-some, four-parts, four-bytes}
+use Rattle.hex_load.proofs.Texts.{bytes-here}
+use Rattle.records.specs.Load.{bytesIn, byteIn, bytesAt, digitsIn, totalIn, kindIn, countIn, offsetIn, addressIn, restOf, contentIn, isKind, isRecord, allInside, recordCode}
 
 pub rest-at : (text : List ℕ) (at next : ℕ) → next ≡ at + (2 * byteIn (drop at text) 0 + 10 + 2) → restOf (drop at text) ≡ drop next text
 rest-at text at next e = drop-drop (2 * byteIn (drop at text) 0 + 10 + 2) at text ∙ rw (← e)
@@ -110,33 +113,101 @@ module _ (text : List ℕ) (at n : ℕ) (count : n ≡ byteIn (drop at text) 0) 
         all-in false b c d x z = absurd (true≢false (sym z))
 
 -- the parts of the first four bytes
-pub head-parts : (t : List ℕ) (h : ℕ) → h ≡ headIn t → (h / 16777216 ≡ byteIn t 0) × (h % 256 ≡ kindIn t) × (h / 256 % 65536 ≡ offsetIn t)
-head-parts t h e =
-    (omega (arith, e, byte-low t 1, byte-low t 2, byte-low t 3), omega (arith, e, byte-low t 3), omega (arith, e, byte-low t 1, byte-low t 2, byte-low t 3))
+pub head-parts : (t : List ℕ) (h : ℕ) → h ≡ headIn t → (h % 0x1_0000 ≡ byteIn t 0) × (h / 0x1_0000_0000_0000 ≡ kindIn t) × (h / 0x1_0000 % 0x1_0000 * 256 + h / 0x1_0000_0000 % 0x1_0000 ≡ offsetIn t)
+head-parts t h e = by (byteIn t 0) (byteIn t 1) (byteIn t 2) (byteIn t 3) (byte-low t 0) (byte-low t 1) (byte-low t 2) e
+  where
+    by : (a b c d : ℕ) → a < 256 → b < 256 → c < 256 → h ≡ apart (a ∷ b ∷ c ∷ d ∷ []) → (h % 0x1_0000 ≡ a) × (h / 0x1_0000_0000_0000 ≡ d) × (h / 0x1_0000 % 0x1_0000 * 256 + h / 0x1_0000_0000 % 0x1_0000 ≡ b * 256 + c)
+    by a b c d k l m is =
+        let past-one : h / 0x1_0000 ≡ apart (b ∷ c ∷ d ∷ []) = omega arith in
+        let past-two : h / 0x1_0000_0000 ≡ apart (c ∷ d ∷ []) = omega arith in
+        let second : apart (b ∷ c ∷ d ∷ []) % 0x1_0000 ≡ b = omega arith in
+        let third : apart (c ∷ d ∷ []) % 0x1_0000 ≡ c = omega arith in
+        (omega arith, omega arith, rw (past-one, past-two, second, third))
+
+pub head-four : (t : List ℕ) (h : ℕ) → h ≡ headIn t → FourBytes h
+head-four t h e = rw e (four-bytes (byteIn t 0) (byteIn t 1) (byteIn t 2) (byteIn t 3) (byte-low t 0, (byte-low t 1, (byte-low t 2, (byte-low t 3, tt)))))
 
 -- what a head of eight digits says
 pub record HeadSays (text : List ℕ) (at q : ℕ) : Type 0 where
   pub whole : q ≡ headIn (drop at text)
-  pub counts : q / 16777216 ≡ byteIn (drop at text) 0
-  pub kinds : q % 256 ≡ kindIn (drop at text)
-  pub offsets : q / 256 % 65536 ≡ offsetIn (drop at text)
+  pub counts : q % 0x1_0000 ≡ byteIn (drop at text) 0
+  pub kinds : q / 0x1_0000_0000_0000 ≡ kindIn (drop at text)
+  pub offsets : q / 0x1_0000 % 0x1_0000 * 256 + q / 0x1_0000_0000 % 0x1_0000 ≡ offsetIn (drop at text)
   pub digits : allDigits (take 8 (drop (at + 1) text)) ≡ true
-  pub sums : total (windowBytes (q ∷ [])) ≡ total (bytesIn (take 8 (drop (at + 1) text)))
+  pub sums : partsSum q ≡ total (bytesIn (take 8 (drop (at + 1) text)))
 
-pub head-says : (text : List ℕ) (at q : ℕ) → at + 9 ≤ length text → q ≡ numberOr (take 8 (drop (at + 1) text)) → (q ≡ none → ⊥) → HeadSays text at q
+-- the four bytes that the first eight digits stand for
+pub head-is : (text : List ℕ) (at q : ℕ) → at + 9 ≤ length text → q ≡ apart (bytesIn (take 8 (drop (at + 1) text))) → q ≡ headIn (drop at text)
+unfolding bytesAt
+head-is text at q h is = is ∙ ap apart (bytes-here text at 0 4 (omega arith))
+
+pub head-says : (text : List ℕ) (at q : ℕ) → at + 9 ≤ length text → q ≡ bytesOr (take 8 (drop (at + 1) text)) → (q ≡ 0xFFFF_FFFF_FFFF_FFFF → ⊥) → HeadSays text at q
 head-says text at q h is some =
-    let t = drop at text in
-    let e = quad-bytes text at 0 q h is some in
-    let p = number-some (take 8 (drop (at + 1) text)) q is some in
-    let parts = head-parts t q e in
+    let p = quad-some text (at + 1) q (omega arith) is some in
+    let e = head-is text at q h (p .1) in
+    let parts = head-parts (drop at text) q e in
     record {
       whole = e;
       counts = parts .0;
       kinds = parts .1;
       offsets = parts .2;
       digits = p .0;
-      sums = rw (p .1) (sym (quad-sum text (at + 1) (omega arith) (p .0)));
+      sums = four-parts text (at + 1) q (omega arith) (p .1) .1;
     }
+
+-- ---- what a record has
+
+module _ (text : List ℕ) (at : ℕ) (is : isRecord (drop at text) ≡ true) where
+  abbrev count : ℕ
+  count = byteIn (drop at text) 0
+
+  abbrev long : Bool
+  long = ltb (2 * count + 10 + 1) (length (drop at text))
+
+  tests : ((long && eqb (getD text at 0) 58) ≡ true) × (((allDigits (take (2 * count + 10) (drop (at + 1) text)) && eqb (getD text (at + (2 * count + 10 + 1)) 0) 10) && isKind (kindIn (drop at text)) count (offsetIn (drop at text))) ≡ true)
+  tests = both _ _ (sym (by-place text at count refl) ∙ is)
+
+  pub record-fits : at + (2 * count + 12) ≤ length text
+  record-fits = omega (arith, ltb-true (2 * count + 10 + 1) (length (drop at text)) (both long _ (tests .0) .0), length-drop at text)
+
+  pub record-digits : allDigits (take (2 * count + 10) (drop (at + 1) text)) ≡ true
+  record-digits = both (allDigits (take (2 * count + 10) (drop (at + 1) text))) _ (both _ _ (tests .1) .0) .0
+
+  -- the first four bytes, read as such
+  pub head-read : (q : ℕ) → q ≡ apart (saidIn (getD text (at + 1) 0 ∷ getD text (at + 2) 0 ∷ getD text (at + 3) 0 ∷ getD text (at + 4) 0 ∷ getD text (at + 5) 0 ∷ getD text (at + 6) 0 ∷ getD text (at + 7) 0 ∷ getD text (at + 8) 0 ∷ []))
+      → q ≡ headIn (drop at text)
+  head-read q e =
+      let h = record-fits in
+      let digits = take-eight text (at + 1) (omega (arith, h)) in
+      let p1 : at + 1 + 1 ≡ at + 2 = omega arith in
+      let p2 : at + 1 + 2 ≡ at + 3 = omega arith in
+      let p3 : at + 1 + 3 ≡ at + 4 = omega arith in
+      let p4 : at + 1 + 4 ≡ at + 5 = omega arith in
+      let p5 : at + 1 + 5 ≡ at + 6 = omega arith in
+      let p6 : at + 1 + 6 ≡ at + 7 = omega arith in
+      let p7 : at + 1 + 7 ≡ at + 8 = omega arith in
+      let shown = rw (p1, p2, p3, p4, p5, p6, p7) at digits in
+      let all = all-part 0 8 (2 * count + 10) (at + 1) text (omega arith) record-digits in
+      head-is text at q (omega (arith, h)) (e ∙ ap (λ (l : List ℕ). apart (saidIn l)) (sym shown) ∙ ap apart (said-bytes (take 8 (drop (at + 1) text)) (rw add-zero at all)))
+
+  -- n digits from digit i on
+  pub digits-from : (i n : ℕ) → i + n ≤ 2 * count + 10 → allDigits (take n (drop (at + 1 + i) text)) ≡ true
+  digits-from i n h = all-part i n (2 * count + 10) (at + 1) text h record-digits
+
+  -- the content, by its digits
+  pub content-digits : allDigits (take (2 * count) (drop (at + 9) text)) ≡ true
+  content-digits = let e : at + 1 + 8 ≡ at + 9 = omega arith in rw e at (digits-from 8 (2 * count) (omega arith))
+
+  pub content-bytes : contentIn (drop at text) ≡ bytesIn (take (2 * count) (drop (at + 9) text))
+  unfolding contentIn
+  content-bytes = sym (bytes-here text at 4 count (omega (arith, record-fits)))
+
+  pub upper-count : kindIn (drop at text) ≡ 4 → count ≡ 2
+  unfolding isKind
+  upper-count e =
+      let k = both (allDigits (take (2 * count + 10) (drop (at + 1) text)) && eqb (getD text (at + (2 * count + 10 + 1)) 0) 10) _ (tests .1) .1 in
+      let k′ : (eqb (offsetIn (drop at text)) 0 && eqb count 2) ≡ true = rw e at k in
+      eqb-true count 2 (both (eqb (offsetIn (drop at text)) 0) (eqb count 2) k′ .1)
 
 -- ---- the sum of a record, by what is found
 
@@ -204,3 +275,19 @@ module _ (start words upper : ℕ) (t : List ℕ) where
   pub zero-says : recordCode start words upper t ≡ 0 → recordSum t ≡ none → ⊥
   unfolding recordCode
   zero-says e z = let n = none-says t z in let w : _≡_ {A = ℕ} 16 0 = sym (rw n) ∙ e in omega arith
+
+  -- and its bytes are in the window
+  pub code-says : recordCode start words upper t ≡ 0 → (isRecord t ≡ true) × (kindIn t ≡ 0 → allInside start words (addressIn upper t) (countIn t) ≡ true)
+  code-says e = by (isRecord t) refl
+    where
+      by : (b : Bool) → isRecord t ≡ b → (isRecord t ≡ true) × (kindIn t ≡ 0 → allInside start words (addressIn upper t) (countIn t) ≡ true)
+      by false a = let w : _≡_ {A = ℕ} 16 0 = sym (not-record a) ∙ e in absurd (omega (arith, w))
+      by true a = (a, λ k. sums a k (ℕ-discrete (totalIn t % 256) 0))
+        where
+          inside : (a : isRecord t ≡ true) → totalIn t % 256 ≡ 0 → kindIn t ≡ 0 → (b : Bool) → allInside start words (addressIn upper t) (countIn t) ≡ b → allInside start words (addressIn upper t) (countIn t) ≡ true
+          inside a s k true i = i
+          inside a s k false i = let w : _≡_ {A = ℕ} 18 0 = sym (one-out a s k i) ∙ e in absurd (omega (arith, w))
+
+          sums : (a : isRecord t ≡ true) → kindIn t ≡ 0 → Dec (totalIn t % 256 ≡ 0) → allInside start words (addressIn upper t) (countIn t) ≡ true
+          sums a k (yes s) = inside a s k (allInside start words (addressIn upper t) (countIn t)) refl
+          sums a k (no s) = let w : _≡_ {A = ℕ} 17 0 = sym (bad-sum a s) ∙ e in absurd (omega (arith, w))

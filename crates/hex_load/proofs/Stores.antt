@@ -1,60 +1,126 @@
--- The loop that stores the bytes of a record, some at a time.
+-- The loops that store the bytes of a record, and what they leave.
+--     sets-append                    stores after stores
+--     split-bytes                    the bytes of digits in two parts
+--     parts-stored, aligned-stored   bytes stored part by part
+--     words-turn, singly-turn        a turn of each loop
+--     inside-window, run-stored      the bytes of a record in the window
+--     said-data, said-other, said-empty    what a record says
 use Prim.Native.Nat.{ℕ, zero, suc, _+_, _-_, _*_, _/_, _%_, _^_, _<_, _≤_}
 use mathlib.Core.Path.{_≡_, refl, sym, ap, _∙_}
+use mathlib.Core.Bool.{Bool, true, false, true≢false, cond}
 use mathlib.Core.List.{List, [], _∷_, _++_}
-use native.Mathlib.Nat.{add-zero, zero-add, sub-zero}
+use native.Mathlib.Nat.{add-zero, add-suc, suc-add, sub-zero}
 use native.Mathlib.Omega.{arith}
-use lib.ListN.{length, set}
+use lib.ListN.{length, getD, take, drop, set}
 use lib.Seq.{sets}
+use lib.Dec.{ltb, eqb}
+use borrow.Author.Tests.{ltb-true, ltb-false, ne-eqb}
+use Rattle.hex.specs.Hex.{allDigits}
 use Rattle.records.specs.Window.{windowBytes, bytePlace}
-use Rattle.records.specs.Load.{byteIn, bytesAt, run, stored}
-use Rattle.records.proofs.Exactly.{length-at, byte-low}
-use Rattle.records.proofs.Promises.{run-same, run-append, stored-run}
-use Rattle.hex_load.proofs.Words.{low-byte, second-byte, third-byte, set-quad, place-back, stored-append}
-use Rattle.hex_load.proofs.Texts.{bytes-done}
+use Rattle.records.specs.Load.{Said, bytesIn, bytesAt, kindIn, countIn, addressIn, contentIn, allInside, run, saidBy, stored}
+use Rattle.records.proofs.Promises.{run-same, stored-run}
+use Rattle.hex_load.proofs.Words.{set-quad, place-back, one-outside}
+use Rattle.hex_load.proofs.Sums.{take-split, take-eight, take-two, all-part, in-append, in-long, there}
 
-at-append : (t : List ℕ) (j r m : ℕ) → bytesAt t j (r + m) ≡ bytesAt t j r ++ bytesAt t (j + r) m
-unfolding bytesAt
-at-append t j zero m = let e : 0 + m ≡ m = omega arith in rw (e, add-zero j)
-at-append t j (suc r) m =
-    let e : suc r + m ≡ suc (r + m) = omega arith in
-    let f : j + suc r ≡ suc j + r = omega arith in
-    rw (e, f, at-append t (suc j) r m)
+pub sets-append : (w : List ℕ) (p : ℕ) (xs ys : List ℕ) → sets w p (xs ++ ys) ≡ sets (sets w p xs) (p + length xs) ys
+sets-append w p [] ys = rw add-zero
+sets-append w p (x ∷ xs) ys = rw (add-suc, ← suc-add) (sets-append (set w p x) (suc p) xs ys)
 
-module _ (start : ℕ) (w : List ℕ) where
-  pub store-start : (a : ℕ) (t : List ℕ) (n : ℕ) → stored start w (run a (bytesAt t 4 n)) ≡ stored start w (run (a + 0) (bytesAt t (0 + 4) (n - 0)))
-  store-start a t n = rw (sub-zero, add-zero, zero-add)
+-- the bytes of 2 (m + n) digits, from a place on
+module _ (s : List ℕ) (from m n : ℕ) (fits : from + 2 * (m + n) ≤ length s) where
+  abbrev first : List ℕ
+  first = bytesIn (take (2 * m) (drop from s))
 
-  pub store-turn : (w′ : List ℕ) (a : ℕ) (t : List ℕ) (n k r p : ℕ) → k + r ≤ n → start < 2 ^ 32 → p ≡ bytePlace start (a + k) → p + r ≤ 2 ^ 32 → w′ ≡ sets w p (bytesAt t (k + 4) r)
-      → stored start w (run (a + k) (bytesAt t (k + 4) (n - k))) ≡ stored start w′ (run (a + (k + r)) (bytesAt t (k + r + 4) (n - (k + r))))
-  store-turn w′ a t n k r p h low e fits s =
-      let left : n - k ≡ r + (n - (k + r)) = omega arith in
-      let next : k + 4 + r ≡ k + r + 4 = omega arith in
-      let on : a + k + r ≡ a + (k + r) = omega arith in
-      let bs = bytesAt t (k + 4) r in
-      let here : stored start w (run (a + k) bs) ≡ sets w p bs
-      = ap (stored start w) (run-same (a + k) (start + p) bs (place-back start (a + k) p low e .1)) ∙ stored-run start p w bs low (rw (length-at t (k + 4) r) fits) in
-      rw (left, at-append t (k + 4) r (n - (k + r)), run-append (a + k) bs (bytesAt t (k + 4 + r) (n - (k + r))), length-at t (k + 4) r, next, on, stored-append, here, ← s)
+  abbrev second : List ℕ
+  second = bytesIn (take (2 * n) (drop (from + 2 * m) s))
 
-  pub store-done : (a : ℕ) (t : List ℕ) (n k : ℕ) → n ≤ k → stored start w (run (a + k) (bytesAt t (k + 4) (n - k))) ≡ w
-  unfolding stored run
-  store-done a t n k h = rw (bytes-done t (k + 4) n k h)
+  in-parts : bytesIn (take (2 * (m + n)) (drop from s)) ≡ first ++ second
+  in-parts =
+      let e : 2 * (m + n) ≡ 2 * m + 2 * n = omega arith in
+      rw (e, take-split (2 * m) (2 * n) from s) (in-append m (take (2 * m) (drop from s)) (take (2 * n) (drop (from + 2 * m) s)) (there (2 * m) from s (omega arith)))
 
--- four bytes of a record, stored as a word
-pub store-word : (t ws : List ℕ) (k q r p : ℕ) → p % 4 ≡ 0 → q ≡ byteIn t (k + 3) + 256 * byteIn t (k + 2) + 65536 * byteIn t (k + 1) + 16777216 * byteIn t k
-    → windowBytes (r ∷ []) ≡ q / 16777216 ∷ q / 65536 % 256 ∷ q / 256 % 256 ∷ q % 256 ∷ [] → windowBytes (set ws (p / 4) r) ≡ sets (windowBytes ws) p (bytesAt t k 4)
-unfolding bytesAt
-store-word t ws k q r p h is word =
-    let a = byteIn t k in
-    let b = byteIn t (k + 1) in
-    let c = byteIn t (k + 2) in
-    let d = byteIn t (k + 3) in
-    let high : q / 16777216 ≡ a = omega (arith, byte-low t (k + 1), byte-low t (k + 2), byte-low t (k + 3)) in
-    let third : q / 65536 % 256 ≡ b = rw is (third-byte d c b a (byte-low t (k + 3)) (byte-low t (k + 2)) (byte-low t (k + 1))) in
-    let second : q / 256 % 256 ≡ c = rw is (second-byte d c b a (byte-low t (k + 3)) (byte-low t (k + 2))) in
-    let low : q % 256 ≡ d = rw is (low-byte d c b a (byte-low t (k + 3))) in
-    let one : suc k ≡ k + 1 = omega arith in
-    let two : suc (k + 1) ≡ k + 2 = omega arith in
-    let three : suc (k + 2) ≡ k + 3 = omega arith in
-    let place : 4 * (p / 4) ≡ p = omega arith in
-    rw (one, two, three) (rw place at (set-quad ws (p / 4) r a b c d (word ∙ rw (high, third, second, low))))
+  length-first : length first ≡ m
+  length-first = in-long m (take (2 * m) (drop from s)) (there (2 * m) from s (omega arith))
+
+  -- stored one part after the other
+  pub split-bytes : (w : List ℕ) (p : ℕ) → sets w p (bytesIn (take (2 * (m + n)) (drop from s))) ≡ sets (sets w p first) (p + m) second
+  split-bytes w p = rw in-parts (sets-append w p first second ∙ rw length-first)
+
+-- the bytes of 2 n digits, stored in two parts
+pub parts-stored : (s : List ℕ) (from n k p : ℕ) (w : List ℕ) → k ≤ n → from + 2 * n ≤ length s
+    → sets (sets w p (bytesIn (take (2 * k) (drop from s)))) (p + k) (bytesIn (take (2 * (n - k)) (drop (from + 2 * k) s))) ≡ sets w p (bytesIn (take (2 * n) (drop from s)))
+parts-stored s from n k p w h fits = let e : k + (n - k) ≡ n = omega arith in rw e at (sym (split-bytes s from k (n - k) (omega arith) w p))
+
+-- words, and what is left of them
+pub aligned-stored : (s : List ℕ) (from n p : ℕ) (w : List ℕ) → p % 4 ≡ 0 → from + 2 * n ≤ length s
+    → sets (sets w (4 * (p / 4)) (bytesIn (take (8 * (n / 4)) (drop from s)))) (p + 4 * (n / 4)) (bytesIn (take (2 * (n - 4 * (n / 4))) (drop (from + 8 * (n / 4)) s))) ≡ sets w p (bytesIn (take (2 * n) (drop from s)))
+aligned-stored s from n p w h fits =
+    let e : 4 * (p / 4) ≡ p = omega arith in
+    let f : 8 * (n / 4) ≡ 2 * (4 * (n / 4)) = omega arith in
+    rw (e, f) (parts-stored s from n (4 * (n / 4)) p w (omega arith) fits)
+
+-- ---- a turn of each loop
+
+module _ (s : List ℕ) (from m k : ℕ) (more : k < m) (w : List ℕ) where
+  pub words-turn : (i r : ℕ) → from + 8 * m ≤ length s → windowBytes (r ∷ []) ≡ bytesIn (take 8 (drop (from + 8 * k) s))
+      → sets (windowBytes w) (4 * (i + k)) (bytesIn (take (8 * (m - k)) (drop (from + 8 * k) s))) ≡ sets (windowBytes (set w (i + k) r)) (4 * (i + (k + 1))) (bytesIn (take (8 * (m - (k + 1))) (drop (from + 8 * (k + 1)) s)))
+  unfolding bytesIn
+  words-turn i r fits is =
+      let e : 8 * (m - k) ≡ 2 * (4 + 4 * (m - (k + 1))) = omega arith in
+      let f : 2 * (4 * (m - (k + 1))) ≡ 8 * (m - (k + 1)) = omega arith in
+      let next : from + 8 * k + 2 * 4 ≡ from + 8 * (k + 1) = omega arith in
+      let place : 4 * (i + k) + 4 ≡ 4 * (i + (k + 1)) = omega arith in
+      let here = take-eight s (from + 8 * k) (omega arith) in
+      let word = set-quad w (i + k) r _ _ _ _ (is ∙ ap bytesIn here) in
+      rw e (split-bytes s (from + 8 * k) 4 (4 * (m - (k + 1))) (omega arith) (windowBytes w) (4 * (i + k)) ∙ rw (f, next, place, here, word))
+
+  pub singly-turn : (p b : ℕ) → from + 2 * m ≤ length s → b ∷ [] ≡ bytesIn (take 2 (drop (from + 2 * k) s))
+      → sets w (p + k) (bytesIn (take (2 * (m - k)) (drop (from + 2 * k) s))) ≡ sets (set w (p + k) b) (p + (k + 1)) (bytesIn (take (2 * (m - (k + 1))) (drop (from + 2 * (k + 1)) s)))
+  singly-turn p b fits is =
+      let e : m - k ≡ 1 + (m - (k + 1)) = omega arith in
+      let next : from + 2 * k + 2 * 1 ≡ from + 2 * (k + 1) = omega arith in
+      let place : p + k + 1 ≡ p + (k + 1) = omega arith in
+      rw e (split-bytes s (from + 2 * k) 1 (m - (k + 1)) (omega arith) w (p + k) ∙ rw (← is, next, place))
+
+-- no digits are left
+pub words-done : (s : List ℕ) (from m k p : ℕ) (w : List ℕ) → m ≤ k → sets w p (bytesIn (take (8 * (m - k)) (drop from s))) ≡ w
+unfolding bytesIn
+words-done s from m k p w h = let e : 8 * (m - k) ≡ 0 = omega arith in rw e
+
+pub singly-done : (s : List ℕ) (from m k p : ℕ) (w : List ℕ) → m ≤ k → sets w p (bytesIn (take (2 * (m - k)) (drop from s))) ≡ w
+unfolding bytesIn
+singly-done s from m k p w h = let e : 2 * (m - k) ≡ 0 = omega arith in rw e
+
+-- ---- in the window
+
+module _ (start words a p n : ℕ) (low : start < 2 ^ 32) (is : p ≡ bytePlace start a) where
+  -- n bytes whose addresses all belong to the window lie in it from the place of the first on
+  pub inside-window : words ≤ 16384 → 0 < n → allInside start words a n ≡ true → p + n ≤ 4 * words
+  inside-window few some e = by (ltb (4 * words) (p + n)) refl
+    where
+      by : (t : Bool) → ltb (4 * words) (p + n) ≡ t → p + n ≤ 4 * words
+      by true h = let q = place-back start a p low is in absurd (true≢false (sym e ∙ one-outside start words low few n a p (q .0) (q .1) some (ltb-true (4 * words) (p + n) h)))
+      by false h = ltb-false (4 * words) (p + n) h
+
+  -- bytes said from an address on, stored from its place on
+  pub run-stored : (w bs : List ℕ) → p + length bs ≤ 2 ^ 32 → sets w p bs ≡ stored start w (run a bs)
+  run-stored w bs fits = sym (ap (stored start w) (run-same a (start + p) bs (place-back start a p low is .1)) ∙ stored-run start p w bs low fits)
+
+-- ---- what a record says
+
+module _ (upper : ℕ) (t : List ℕ) where
+  pub said-data : kindIn t ≡ 0 → saidBy upper t ≡ run (addressIn upper t) (contentIn t)
+  unfolding saidBy
+  said-data e = rw e
+
+  pub said-other : (kindIn t ≡ 0 → ⊥) → saidBy upper t ≡ []
+  unfolding saidBy
+  said-other e = rw (ne-eqb (kindIn t) 0 e)
+
+  pub said-empty : countIn t ≡ 0 → saidBy upper t ≡ []
+  unfolding saidBy contentIn bytesAt run
+  said-empty e = rw e (by (eqb (kindIn t) 0))
+    where
+      by : (b : Bool) → cond b (run (addressIn upper t) []) [] ≡ []
+      by true = refl
+      by false = refl

@@ -1,9 +1,10 @@
 -- Laws of digits read many at once.
---     take-two, take-eight, take-split     the digits at a place, one by one and in parts
---     joined-none, joined-some             a sum over digits joined
---     number-some, number-none, padded     what a number of digits says of them
---     quad-number, quad-sum, pair-sum      by the bytes that they stand for
---     quad-turn, pair-turn, rest-some      a turn of a loop; what quads leave
+--     take-two, take-eight, take-split, all-part     the digits at a place, one by one and in parts
+--     joined-none, joined-some                       a sum over digits joined
+--     number-some, number-none, padded, pair-sum     what a number of two digits says of them
+--     said-bytes, quad-none, quad-some               what is read of eight digits: the bytes that they stand for
+--     Parts, parts-of, parts-add, parts-total        four sums in one number
+--     quad-turn, pair-turn, rest-some                a turn of a loop; what quads leave
 use Prim.Native.Nat.{ℕ, zero, suc, _+_, _-_, _*_, _/_, _%_, _^_, _<_, _≤_}
 use mathlib.Core.Path.{_≡_, refl, sym, ap, _∙_}
 use mathlib.Core.Bool.{Bool, true, false, cond, _&&_}
@@ -12,19 +13,21 @@ use native.Mathlib.Nat.{add-zero, add-assoc, sub-zero, le-refl}
 use native.Mathlib.Omega.{arith}
 use lib.ListN.{length, getD, take, drop, length-drop}
 use lib.Seq.{drop-cons, drop-drop, length-take-le}
-use lib.Dec.{ltb}
+use lib.Dec.{ltb, lit<}
 use borrow.Author.Tests.{ltb-true}
 use Rattle.laws.proofs.Below.{both}
-use Rattle.hex.specs.Hex.{hexDigits, placeIn, digitNumber, allDigits, numberFrom, number}
-use Rattle.hex.proofs.Numbers.{all-append, number-lt}
-use Rattle.eight.specs.Packed.{Each, numberOr}
+use Rattle.hex.specs.Hex.{hexDigits, placeIn, digitNumber, allDigits, numberFrom, number, digitOf, digits}
+use Rattle.hex.proofs.Numbers.{all-append, number-lt, digits-number}
+use Rattle.eight.specs.Packed.{packed, apart, Each, numberIn, saidIn, numberOr, bytesOr}
+use Rattle.eight.proofs.Packed.{lane-number, each-said, bytes-some, bytes-none}
+use Rattle.eight.proofs.Written.{digit-small}
 use Rattle.records.specs.Window.{windowBytes}
 use Rattle.records.specs.Record.{total}
 use Rattle.records.specs.Load.{bytesIn}
 use Rattle.records.proofs.Bytes.{total-append}
 use Rattle.records.proofs.Exactly.{in-below}
-use Rattle.hex_load.specs.Sums.{none, sumFrom}
-use Rattle.hex_load.proofs.Words.{bytes-joined}
+use Rattle.hex_load.specs.Sums.{none, sumFrom, partsSum, FourBytes}
+use Rattle.hex_load.proofs.Words.{bytes-packed}
 
 -- ---- digits at a place
 
@@ -45,6 +48,16 @@ take-add (suc m) n (x ∷ s) = let e : suc m + n ≡ suc (m + n) = omega arith i
 
 pub take-split : (m n i : ℕ) (s : List ℕ) → take (m + n) (drop i s) ≡ take m (drop i s) ++ take n (drop (i + m) s)
 take-split m n i s = take-add m n (drop i s) ∙ rw (drop-drop m i s)
+
+-- digits among digits
+pub all-part : (i n m a : ℕ) (s : List ℕ) → i + n ≤ m → allDigits (take m (drop a s)) ≡ true → allDigits (take n (drop (a + i) s)) ≡ true
+all-part i n m a s h e =
+    let f : m ≡ i + (n + (m - (i + n))) = omega arith in
+    let rest = take (n + (m - (i + n))) (drop (a + i) s) in
+    let p = both (allDigits (take i (drop a s))) (allDigits rest) (sym (all-append (take i (drop a s)) rest) ∙ ap allDigits (sym (take-split i (n + (m - (i + n))) a s)) ∙ (rw f at e)) in
+    let here = take n (drop (a + i) s) in
+    let past = take (m - (i + n)) (drop (a + i + n) s) in
+    both (allDigits here) (allDigits past) (sym (all-append here past) ∙ ap allDigits (sym (take-split n (m - (i + n)) (a + i) s)) ∙ (p .1)) .0
 
 -- ---- sums
 
@@ -86,6 +99,12 @@ unfolding bytesIn
 in-short [] = omega arith
 in-short (a ∷ []) = omega arith
 in-short (a ∷ b ∷ s) = omega (arith, in-short s)
+
+pub in-long : (m : ℕ) (s : List ℕ) → length s ≡ 2 * m → length (bytesIn s) ≡ m
+unfolding bytesIn
+in-long m [] h = omega arith
+in-long m (a ∷ []) h = absurd (omega arith)
+in-long m (a ∷ b ∷ s) h = let k = in-long (m - 1) s (omega arith) in omega arith
 
 pub total-small : (s : List ℕ) → total (bytesIn s) ≤ 255 * length s
 total-small s = omega (arith, below-total (bytesIn s) (in-below s), in-short s)
@@ -134,36 +153,6 @@ pair-total a b e =
     let k = q .0 in
     omega arith
 
-pair-at : (n a b : ℕ) → digitNumber a < 16 → digitNumber b < 16 → (n * 16 + digitNumber a) * 16 + digitNumber b ≡ n * 256 + (digitNumber a % 16 * 16 + digitNumber b % 16)
-pair-at n a b h k = omega arith
-
--- the byte that two digits stand for
-abbrev pub byteOf : ℕ → ℕ → ℕ
-byteOf a b = digitNumber a % 16 * 16 + digitNumber b % 16
-
-pub byte-low : (a b : ℕ) → byteOf a b < 256
-byte-low a b = omega arith
-
--- the number of eight digits, by the four bytes that they stand for
-pub quad-number : (a b c d e f g h : ℕ) → allDigits (a ∷ b ∷ c ∷ d ∷ e ∷ f ∷ g ∷ h ∷ []) ≡ true
-    → number (a ∷ b ∷ c ∷ d ∷ e ∷ f ∷ g ∷ h ∷ []) ≡ byteOf g h + 256 * byteOf e f + 65536 * byteOf c d + 16777216 * byteOf a b
-unfolding allDigits numberFrom
-quad-number a b c d e f g h all =
-    let a′ = digit-low a _ all in
-    let b′ = digit-low b _ (a′ .1) in
-    let c′ = digit-low c _ (b′ .1) in
-    let d′ = digit-low d _ (c′ .1) in
-    let e′ = digit-low e _ (d′ .1) in
-    let f′ = digit-low f _ (e′ .1) in
-    let g′ = digit-low g _ (f′ .1) in
-    let h′ = digit-low h _ (g′ .1) in
-    rw (pair-at 0 a b (a′ .0) (b′ .0), pair-at _ c d (c′ .0) (d′ .0), pair-at _ e f (e′ .0) (f′ .0), pair-at _ g h (g′ .0) (h′ .0)) (omega arith)
-
-quad-total : (a b c d e f g h : ℕ) → (let s = a ∷ b ∷ c ∷ d ∷ e ∷ f ∷ g ∷ h ∷ [] in allDigits s ≡ true → total (bytesIn s) ≡ total (windowBytes (number s ∷ [])))
-unfolding bytesIn total
-quad-total a b c d e f g h all =
-    rw (quad-number a b c d e f g h all, bytes-joined (byteOf g h) (byteOf e f) (byteOf c d) (byteOf a b) (byte-low g h) (byte-low e f) (byte-low c d) (byte-low a b)) (omega arith)
-
 pub take-eight : (s : List ℕ) (i : ℕ) → i + 8 ≤ length s
     → take 8 (drop i s) ≡ getD s i 0 ∷ getD s (i + 1) 0 ∷ getD s (i + 2) 0 ∷ getD s (i + 3) 0 ∷ getD s (i + 4) 0 ∷ getD s (i + 5) 0 ∷ getD s (i + 6) 0 ∷ getD s (i + 7) 0 ∷ []
 take-eight s i h =
@@ -190,12 +179,167 @@ take-eight s i h =
       take-more 0 s (i + 7) (omega arith),
     )
 
--- the total of eight digits at a place, by their number; of two
-pub quad-sum : (s : List ℕ) (i : ℕ) → i + 8 ≤ length s → allDigits (take 8 (drop i s)) ≡ true → total (bytesIn (take 8 (drop i s))) ≡ total (windowBytes (number (take 8 (drop i s)) ∷ []))
-quad-sum s i h all = rw (take-eight s i h) (quad-total _ _ _ _ _ _ _ _ (rw (take-eight s i h) at all))
-
+-- the total of two digits at a place, by their number
 pub pair-sum : (s : List ℕ) (i : ℕ) → i + 2 ≤ length s → allDigits (take 2 (drop i s)) ≡ true → total (bytesIn (take 2 (drop i s))) ≡ number (take 2 (drop i s))
 pair-sum s i h all = rw (take-two s i h) (pair-total _ _ (rw (take-two s i h) at all))
+
+-- ---- eight digits
+
+-- the byte that two digits stand for
+byte-low : (a b : ℕ) → digitNumber a % 16 * 16 + digitNumber b % 16 < 256
+byte-low a b = omega arith
+
+-- a digit is a byte, and its low bits say its number
+digit-says : (b : ℕ) → ltb (digitNumber b) 16 ≡ true → numberIn b ≡ digitNumber b
+unfolding allDigits digits
+digit-says b d = lane-number b (rw (← is) (digit-small (number (b ∷ []) % 16) (omega arith))) d
+  where
+    is : digitOf (number (b ∷ []) % 16) ≡ b
+    is = ap (λ (l : List ℕ). getD l 0 0) (digits-number (b ∷ []) (rw d))
+
+pub said-bytes : (bs : List ℕ) → allDigits bs ≡ true → saidIn bs ≡ bytesIn bs
+unfolding allDigits bytesIn
+said-bytes [] e = refl
+said-bytes (a ∷ []) e = refl
+said-bytes (a ∷ b ∷ bs) e =
+    let p = both (ltb (digitNumber a) 16) (ltb (digitNumber b) 16 && allDigits bs) e in
+    let q = both (ltb (digitNumber b) 16) (allDigits bs) (p .1) in
+    let x = digit-says a (p .0) in
+    let y = digit-says b (q .0) in
+    λ i. (x i % 16 * 16 + y i % 16) ∷ said-bytes bs (q .1) i
+
+module _ (s : List ℕ) (i q : ℕ) (there : i + 8 ≤ length s) (is : q ≡ bytesOr (take 8 (drop i s))) where
+  explicit : q ≡ bytesOr (getD s i 0 ∷ getD s (i + 1) 0 ∷ getD s (i + 2) 0 ∷ getD s (i + 3) 0 ∷ getD s (i + 4) 0 ∷ getD s (i + 5) 0 ∷ getD s (i + 6) 0 ∷ getD s (i + 7) 0 ∷ [])
+  explicit = is ∙ ap bytesOr (take-eight s i there)
+
+  pub quad-none : q ≡ 0xFFFF_FFFF_FFFF_FFFF → allDigits (take 8 (drop i s)) ≡ false
+  quad-none e = rw (take-eight s i there) (bytes-none _ _ _ _ _ _ _ _ q explicit e)
+
+  pub quad-some : (q ≡ 0xFFFF_FFFF_FFFF_FFFF → ⊥) → (allDigits (take 8 (drop i s)) ≡ true) × (q ≡ apart (bytesIn (take 8 (drop i s))))
+  quad-some e =
+      let p = bytes-some _ _ _ _ _ _ _ _ q explicit e in
+      rw (take-eight s i there) (p .0, p .1 ∙ ap apart (said-bytes _ (p .0)))
+
+-- ---- digits read as such, zeros behind them
+
+pub two-said : (s : List ℕ) (i w : ℕ) → i + 2 ≤ length s → allDigits (take 2 (drop i s)) ≡ true
+    → w ≡ packed (saidIn (getD s i 0 ∷ getD s (i + 1) 0 ∷ 48 ∷ 48 ∷ 48 ∷ 48 ∷ 48 ∷ 48 ∷ [])) → (w ∷ [] ≡ bytesIn (take 2 (drop i s))) × (w < 256)
+two-said s i w h all is =
+    let digits = take-two s i h in
+    let e : w ∷ [] ≡ saidIn (getD s i 0 ∷ getD s (i + 1) 0 ∷ []) = ap (λ (x : ℕ). x ∷ []) (is ∙ omega arith) in
+    (rw digits (e ∙ said-bytes (getD s i 0 ∷ getD s (i + 1) 0 ∷ []) (rw digits at all)), omega arith)
+
+pub take-four : (s : List ℕ) (i : ℕ) → i + 4 ≤ length s → take 4 (drop i s) ≡ getD s i 0 ∷ getD s (i + 1) 0 ∷ getD s (i + 2) 0 ∷ getD s (i + 3) 0 ∷ []
+take-four s i h =
+    let two : i + 1 + 1 ≡ i + 2 = omega arith in
+    let three : i + 2 + 1 ≡ i + 3 = omega arith in
+    rw (take-more 3 s i (omega arith), take-more 2 s (i + 1) (omega arith), two, take-more 1 s (i + 2) (omega arith), three, take-more 0 s (i + 3) (omega arith))
+
+two-bytes : (x y w : ℕ) → x < 256 → y < 256 → w ≡ packed (x ∷ y ∷ 0 ∷ 0 ∷ []) → (w % 256 ≡ x) × (w / 256 % 256 ≡ y)
+two-bytes x y w h k is =
+    let high : w / 256 ≡ y = omega arith in
+    (omega arith, rw high (omega arith))
+
+pub four-said : (s : List ℕ) (i w : ℕ) → i + 4 ≤ length s → allDigits (take 4 (drop i s)) ≡ true
+    → w ≡ packed (saidIn (getD s i 0 ∷ getD s (i + 1) 0 ∷ getD s (i + 2) 0 ∷ getD s (i + 3) 0 ∷ 48 ∷ 48 ∷ 48 ∷ 48 ∷ [])) → w % 256 ∷ w / 256 % 256 ∷ [] ≡ bytesIn (take 4 (drop i s))
+four-said s i w h all is =
+    let digits = take-four s i h in
+    let four = getD s i 0 ∷ getD s (i + 1) 0 ∷ getD s (i + 2) 0 ∷ getD s (i + 3) 0 ∷ [] in
+    let e = two-bytes (numberIn (getD s i 0) % 16 * 16 + numberIn (getD s (i + 1) 0) % 16) (numberIn (getD s (i + 2) 0) % 16 * 16 + numberIn (getD s (i + 3) 0) % 16) w (omega arith) (omega arith) is in
+    rw (digits, e .0, e .1) (said-bytes four (rw digits at all))
+
+pub word-of-digits : (s : List ℕ) (i w : ℕ) → i + 8 ≤ length s → allDigits (take 8 (drop i s)) ≡ true
+    → w ≡ packed (saidIn (getD s i 0 ∷ getD s (i + 1) 0 ∷ getD s (i + 2) 0 ∷ getD s (i + 3) 0 ∷ getD s (i + 4) 0 ∷ getD s (i + 5) 0 ∷ getD s (i + 6) 0 ∷ getD s (i + 7) 0 ∷ []))
+    → windowBytes (w ∷ []) ≡ bytesIn (take 8 (drop i s))
+word-of-digits s i w h all is =
+    let digits = take-eight s i h in
+    rw (is, digits) (bytes-packed _ _ _ _ (each-said _ _ _ _ _ _ _ _) ∙ said-bytes _ (rw digits at all))
+
+-- ---- four sums in one number
+
+pub record Parts (x most : ℕ) : Type 0 where
+  pub a : ℕ
+  pub b : ℕ
+  pub c : ℕ
+  pub d : ℕ
+  pub is : x ≡ apart (a ∷ b ∷ c ∷ d ∷ [])
+  pub low-a : a ≤ most
+  pub low-b : b ≤ most
+  pub low-c : c ≤ most
+  pub low-d : d ≤ most
+
+pub parts-total : (x most : ℕ) → most < 65536 → (p : Parts x most) → partsSum x ≡ p .a + p .b + p .c + p .d
+parts-total x most h p = by (p .a) (p .b) (p .c) (p .d) (omega (arith, p .low-a)) (omega (arith, p .low-b)) (omega (arith, p .low-c)) (p .is)
+  where
+    by : (a b c d : ℕ) → a < 65536 → b < 65536 → c < 65536 → x ≡ apart (a ∷ b ∷ c ∷ d ∷ []) → partsSum x ≡ a + b + c + d
+    by a b c d k l m e =
+        let first : x % 0x1_0000 ≡ a = omega arith in
+        let past-one : x / 0x1_0000 ≡ apart (b ∷ c ∷ d ∷ []) = omega arith in
+        let past-two : x / 0x1_0000_0000 ≡ apart (c ∷ d ∷ []) = omega arith in
+        let past-three : x / 0x1_0000_0000_0000 ≡ d = omega arith in
+        let second : apart (b ∷ c ∷ d ∷ []) % 0x1_0000 ≡ b = omega arith in
+        let third : apart (c ∷ d ∷ []) % 0x1_0000 ≡ c = omega arith in
+        rw (first, past-one, past-two, past-three, second, third)
+
+pub parts-of : (x : ℕ) → FourBytes x → Parts x 255
+parts-of x f = record {
+  a = x % 0x1_0000;
+  b = x / 0x1_0000 % 0x1_0000;
+  c = x / 0x1_0000_0000 % 0x1_0000;
+  d = x / 0x1_0000_0000_0000;
+  is = omega arith;
+  low-a = omega (arith, f .0);
+  low-b = omega (arith, f .1);
+  low-c = omega (arith, f .2);
+  low-d = omega (arith, f .3);
+}
+
+pub parts-low : (x : ℕ) → FourBytes x → partsSum x ≤ 4096
+parts-low x f = omega (arith, f .0, f .1, f .2, f .3)
+
+pub four-zero : FourBytes 0
+four-zero = (omega arith, omega arith, omega arith, omega arith)
+
+-- of four bytes
+abbrev pub parts-bytes : (a b c d : ℕ) → Each 256 (a ∷ b ∷ c ∷ d ∷ []) → Parts (apart (a ∷ b ∷ c ∷ d ∷ [])) 255
+parts-bytes a b c d e = record {
+  a = a;
+  b = b;
+  c = c;
+  d = d;
+  is = refl;
+  low-a = omega (arith, e .0);
+  low-b = omega (arith, e .1 .0);
+  low-c = omega (arith, e .1 .1 .0);
+  low-d = omega (arith, e .1 .1 .1 .0);
+}
+
+abbrev pub parts-add : (x y m n : ℕ) → Parts x m → Parts y n → Parts (x + y) (m + n)
+parts-add x y m n p q = record {
+  a = p .a + q .a;
+  b = p .b + q .b;
+  c = p .c + q .c;
+  d = p .d + q .d;
+  is = omega (arith, p .is, q .is);
+  low-a = omega (arith, p .low-a, q .low-a);
+  low-b = omega (arith, p .low-b, q .low-b);
+  low-c = omega (arith, p .low-c, q .low-c);
+  low-d = omega (arith, p .low-d, q .low-d);
+}
+
+pub four-bytes : (a b c d : ℕ) → Each 256 (a ∷ b ∷ c ∷ d ∷ []) → FourBytes (apart (a ∷ b ∷ c ∷ d ∷ []))
+four-bytes a b c d e = by (apart (a ∷ b ∷ c ∷ d ∷ [])) refl
+  where
+    by : (x : ℕ) → x ≡ apart (a ∷ b ∷ c ∷ d ∷ []) → FourBytes x
+    by x is =
+        let past-one : x / 0x1_0000 ≡ apart (b ∷ c ∷ d ∷ []) = omega arith in
+        let past-two : x / 0x1_0000_0000 ≡ apart (c ∷ d ∷ []) = omega arith in
+        (omega arith, rw past-one (omega arith), rw past-two (omega arith), omega arith)
+
+-- the sums of both are the sum of all
+pub parts-both : (x y m n : ℕ) → m + n < 65536 → Parts x m → Parts y n → partsSum (x + y) ≡ partsSum x + partsSum y
+parts-both x y m n h p q =
+    rw (parts-total (x + y) (m + n) h (parts-add x y m n p q), parts-total x m (omega arith) p, parts-total y n (omega arith) q) (omega arith)
 
 -- ---- loops
 
@@ -215,8 +359,20 @@ module _ (sum from m : ℕ) (text : List ℕ) where
 pub there : (n i : ℕ) (s : List ℕ) → i + n ≤ length s → length (take n (drop i s)) ≡ n
 there n i s h = length-take-le n (drop i s) (rw length-drop (omega arith))
 
+-- eight digits that make four bytes
+four-total : (a b c d : ℕ) → a + b + c + d ≡ total (a ∷ b ∷ c ∷ d ∷ [])
+unfolding total
+four-total a b c d = omega arith
+
+pub four-parts : (s : List ℕ) (i q : ℕ) → i + 8 ≤ length s → q ≡ apart (bytesIn (take 8 (drop i s))) → Parts q 255 × (partsSum q ≡ total (bytesIn (take 8 (drop i s))))
+unfolding bytesIn
+four-parts s i q h is =
+    let e = is ∙ ap (λ (l : List ℕ). apart (bytesIn l)) (take-eight s i h) in
+    let p = parts-bytes _ _ _ _ (byte-low (getD s i 0) (getD s (i + 1) 0), (byte-low (getD s (i + 2) 0) (getD s (i + 3) 0), (byte-low (getD s (i + 4) 0) (getD s (i + 5) 0), (byte-low (getD s (i + 6) 0) (getD s (i + 7) 0), tt)))) in
+    (rw e p, rw (e, parts-total _ 255 (lit< tt) p, take-eight s i h) (four-total _ _ _ _))
+
 module _ (text : List ℕ) (from m k sum q : ℕ) (more : k < m) where
-  module _ (fits : from + 8 * m ≤ length text) (is : q ≡ numberOr (take 8 (drop (from + 8 * k) text))) where
+  module _ (fits : from + 8 * m ≤ length text) (is : q ≡ bytesOr (take 8 (drop (from + 8 * k) text))) where
     abbrev eight : List ℕ
     eight = take 8 (drop (from + 8 * k) text)
 
@@ -229,13 +385,16 @@ module _ (text : List ℕ) (from m k sum q : ℕ) (more : k < m) where
     long : length eight ≡ 8
     long = there 8 (from + 8 * k) text (omega arith)
 
-    pub quad-none : q ≡ none → sumFrom sum (take (8 * (m - k)) (drop (from + 8 * k) text)) ≡ none
-    quad-none e = rw quads (joined-none sum 4 eight _ long (number-none eight q (rw long (omega arith)) is e))
+    pub quads-none : q ≡ 0xFFFF_FFFF_FFFF_FFFF → sumFrom sum (take (8 * (m - k)) (drop (from + 8 * k) text)) ≡ none
+    quads-none e = rw quads (joined-none sum 4 eight _ long (quad-none text (from + 8 * k) q (omega arith) is e))
 
-    pub quad-turn : (q ≡ none → ⊥) → sumFrom sum (take (8 * (m - k)) (drop (from + 8 * k) text)) ≡ sumFrom (sum + total (windowBytes (q ∷ []))) (take (8 * (m - (k + 1))) (drop (from + 8 * (k + 1)) text))
+    pub quad-parts : (q ≡ 0xFFFF_FFFF_FFFF_FFFF → ⊥) → Parts q 255
+    quad-parts e = four-parts text (from + 8 * k) q (omega arith) (quad-some text (from + 8 * k) q (omega arith) is e .1) .0
+
+    pub quad-turn : (q ≡ 0xFFFF_FFFF_FFFF_FFFF → ⊥) → sumFrom sum (take (8 * (m - k)) (drop (from + 8 * k) text)) ≡ sumFrom (sum + partsSum q) (take (8 * (m - (k + 1))) (drop (from + 8 * (k + 1)) text))
     quad-turn e =
-        let p = number-some eight q is e in
-        rw (quads, p .1, ← quad-sum text (from + 8 * k) (omega arith) (p .0)) (joined-some sum 4 eight _ long (p .0))
+        let p = quad-some text (from + 8 * k) q (omega arith) is e in
+        rw (quads, four-parts text (from + 8 * k) q (omega arith) (p .1) .1) (joined-some sum 4 eight _ long (p .0))
 
   module _ (fits : from + 2 * m ≤ length text) (is : q ≡ numberOr (take 2 (drop (from + 2 * k) text))) where
     abbrev two : List ℕ

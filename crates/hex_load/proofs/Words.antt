@@ -1,5 +1,6 @@
 -- Laws of a window's bytes and words.
---     bytes-joined       the bytes of a word that is made of four
+--     bytes-packed       the bytes of a word that is made of four
+--     one-byte           a byte of a word set
 --     set-word           a word set, as a byte set
 --     below-all          what holds of each element holds of all
 --     stored-append      stores after stores
@@ -12,29 +13,104 @@ use mathlib.Core.List.{List, [], _∷_, _++_}
 use borrow.Author.Tests.{ltb-true, ltb-false, le-ltb}
 use native.Mathlib.Omega.{arith}
 use lib.ListN.{length, getD, set}
-use lib.Seq.{sets, set-out}
+use lib.Seq.{sets}
 use lib.Dec.{ltb}
-use Rattle.records.proofs.Bytes.{length-bytes}
 use Rattle.machine.specs.Window.{placeOf, inside}
-use Rattle.eight.specs.Packed.{Each}
+use Rattle.eight.specs.Packed.{packed, Each}
 use Rattle.records.specs.Window.{windowBytes, bytePlace}
 use Rattle.records.specs.Load.{Said, allInside, stored}
 
-pub low-byte : (a b c d : ℕ) → a < 256 → (a + 256 * b + 65536 * c + 16777216 * d) % 256 ≡ a
+low-byte : (a b c d : ℕ) → a < 256 → (a + 256 * b + 65536 * c + 16777216 * d) % 256 ≡ a
 low-byte a b c d h = omega arith
 
-pub second-byte : (a b c d : ℕ) → a < 256 → b < 256 → (a + 256 * b + 65536 * c + 16777216 * d) / 256 % 256 ≡ b
+second-byte : (a b c d : ℕ) → a < 256 → b < 256 → (a + 256 * b + 65536 * c + 16777216 * d) / 256 % 256 ≡ b
 second-byte a b c d h k = let e : (a + 256 * b + 65536 * c + 16777216 * d) / 256 ≡ b + 256 * c + 65536 * d = omega arith in rw e (omega arith)
 
-pub third-byte : (a b c d : ℕ) → a < 256 → b < 256 → c < 256 → (a + 256 * b + 65536 * c + 16777216 * d) / 65536 % 256 ≡ c
+third-byte : (a b c d : ℕ) → a < 256 → b < 256 → c < 256 → (a + 256 * b + 65536 * c + 16777216 * d) / 65536 % 256 ≡ c
 third-byte a b c d h k l = let e : (a + 256 * b + 65536 * c + 16777216 * d) / 65536 ≡ c + 256 * d = omega arith in rw e (omega arith)
 
 high-byte : (a b c d : ℕ) → a < 256 → b < 256 → c < 256 → d < 256 → (a + 256 * b + 65536 * c + 16777216 * d) / 16777216 % 256 ≡ d
 high-byte a b c d h k l m = let e : (a + 256 * b + 65536 * c + 16777216 * d) / 16777216 ≡ d = omega arith in rw e (omega arith)
 
-pub bytes-joined : (a b c d : ℕ) → a < 256 → b < 256 → c < 256 → d < 256 → windowBytes ((a + 256 * b + 65536 * c + 16777216 * d) ∷ []) ≡ a ∷ b ∷ c ∷ d ∷ []
+bytes-joined : (a b c d x : ℕ) → Each 256 (a ∷ b ∷ c ∷ d ∷ []) → x ≡ a + 256 * b + 65536 * c + 16777216 * d → windowBytes (x ∷ []) ≡ a ∷ b ∷ c ∷ d ∷ []
 unfolding windowBytes
-bytes-joined a b c d h k l m = rw (low-byte a b c d h, second-byte a b c d h k, third-byte a b c d h k l, high-byte a b c d h k l m)
+bytes-joined a b c d x e is =
+    rw (is, low-byte a b c d (e .0), second-byte a b c d (e .0) (e .1 .0), third-byte a b c d (e .0) (e .1 .0) (e .1 .1 .0), high-byte a b c d (e .0) (e .1 .0) (e .1 .1 .0) (e .1 .1 .1 .0))
+
+pub bytes-packed : (a b c d : ℕ) → Each 256 (a ∷ b ∷ c ∷ d ∷ []) → windowBytes (packed (a ∷ b ∷ c ∷ d ∷ []) ∷ []) ≡ a ∷ b ∷ c ∷ d ∷ []
+bytes-packed a b c d e = bytes-joined a b c d (packed (a ∷ b ∷ c ∷ d ∷ [])) e (omega arith)
+
+-- what stands at byte k of a word is taken away, and another byte put there
+module _ (w b : ℕ) (low : w < 2 ^ 32) (byte : b < 256) where
+  abbrev parts : Each 256 (w % 256 ∷ w / 256 % 256 ∷ w / 65536 % 256 ∷ w / 16777216 % 256 ∷ [])
+  parts = (omega arith, (omega arith, (omega arith, (omega arith, tt))))
+
+  whole : w ≡ w % 256 + 256 * (w / 256 % 256) + 65536 * (w / 65536 % 256) + 16777216 * (w / 16777216 % 256)
+  whole =
+      let second : w / 65536 ≡ w / 256 / 256 = omega arith in
+      let third : w / 16777216 ≡ w / 256 / 256 / 256 = omega arith in
+      rw (second, third) (by (w / 256) (w / 256 / 256) (w / 256 / 256 / 256) (omega arith) (omega arith) (omega arith) (omega arith))
+    where
+      by : (x y z : ℕ) → w ≡ w % 256 + 256 * x → x ≡ x % 256 + 256 * y → y ≡ y % 256 + 256 * z → z < 256 → w ≡ w % 256 + 256 * (x % 256) + 65536 * (y % 256) + 16777216 * (z % 256)
+      by x y z a b c d = let e : z % 256 ≡ z = omega arith in omega arith
+
+  abbrev pub taken : ℕ → ℕ
+  taken k = w / 2 ^ (8 * k) % 256 * 2 ^ (8 * k) % 4294967296
+
+  abbrev pub changed : ℕ → ℕ
+  changed k = w - taken k + b * 2 ^ (8 * k) % 4294967296
+
+  -- the four bytes once byte k is changed
+  abbrev after : ℕ → List ℕ
+  after k = set (w % 256 ∷ w / 256 % 256 ∷ w / 65536 % 256 ∷ w / 16777216 % 256 ∷ []) k b
+
+  each-after : (k : ℕ) → k < 4 → Each 256 (after k)
+  each-after zero h = (byte, parts .1)
+  each-after (suc zero) h = (parts .0, (byte, parts .1 .1))
+  each-after (suc (suc zero)) h = (parts .0, (parts .1 .0, (byte, parts .1 .1 .1)))
+  each-after (suc (suc (suc zero))) h = (parts .0, (parts .1 .0, (parts .1 .1 .0, (byte, tt))))
+  each-after (suc (suc (suc (suc k)))) h = absurd (omega arith)
+
+  swap : (low old new high : ℕ) → w ≡ low + old + high → old < 2 ^ 32 → new < 2 ^ 32 → (old % 4294967296 ≤ w) × (w - old % 4294967296 + new % 4294967296 ≡ low + new + high)
+  swap low old new high e h k = (omega arith, omega arith)
+
+  exchanged : (k : ℕ) → k < 4 → (taken k ≤ w) × (changed k ≡ packed (after k))
+  exchanged zero h =
+      let q = swap 0 (w % 256) b (256 * (w / 256 % 256) + 65536 * (w / 65536 % 256) + 16777216 * (w / 16777216 % 256)) (omega (arith, whole)) (omega arith) (omega arith) in
+      let one : w / 1 % 256 * 1 ≡ w % 256 = omega arith in
+      let same : b * 1 ≡ b = omega arith in
+      (rw one (q .0), rw (one, same) (q .1 ∙ omega arith))
+  exchanged (suc zero) h =
+      let q = swap (w % 256) (w / 256 % 256 * 256) (b * 256) (65536 * (w / 65536 % 256) + 16777216 * (w / 16777216 % 256)) (omega (arith, whole)) (omega arith) (omega arith) in
+      (q .0, q .1 ∙ omega arith)
+  exchanged (suc (suc zero)) h =
+      let q = swap (w % 256 + 256 * (w / 256 % 256)) (w / 65536 % 256 * 65536) (b * 65536) (16777216 * (w / 16777216 % 256)) (omega (arith, whole)) (omega arith) (omega arith) in
+      (q .0, q .1 ∙ omega arith)
+  exchanged (suc (suc (suc zero))) h =
+      let q = swap (w % 256 + 256 * (w / 256 % 256) + 65536 * (w / 65536 % 256)) (w / 16777216 % 256 * 16777216) (b * 16777216) 0 (omega (arith, whole)) (omega arith) (omega arith) in
+      (q .0, q .1 ∙ omega arith)
+  exchanged (suc (suc (suc (suc k)))) h = absurd (omega arith)
+
+  pub taken-le : (k : ℕ) → k < 4 → taken k ≤ w
+  taken-le k h = exchanged k h .0
+
+  word-fits : (x y z u : ℕ) → Each 256 (x ∷ y ∷ z ∷ u ∷ []) → packed (x ∷ y ∷ z ∷ u ∷ []) < 4294967296
+  word-fits x y z u e = omega arith
+
+  pub changed-fits : (k : ℕ) → k < 4 → changed k < 4294967296
+  changed-fits zero h = rw (exchanged 0 h .1) (word-fits _ _ _ _ (each-after 0 h))
+  changed-fits (suc zero) h = rw (exchanged 1 h .1) (word-fits _ _ _ _ (each-after 1 h))
+  changed-fits (suc (suc zero)) h = rw (exchanged 2 h .1) (word-fits _ _ _ _ (each-after 2 h))
+  changed-fits (suc (suc (suc zero))) h = rw (exchanged 3 h .1) (word-fits _ _ _ _ (each-after 3 h))
+  changed-fits (suc (suc (suc (suc k)))) h = absurd (omega arith)
+
+  pub one-byte : (k : ℕ) → k < 4 → windowBytes (changed k ∷ []) ≡ set (windowBytes (w ∷ [])) k b
+  unfolding windowBytes
+  one-byte zero h = rw (exchanged 0 h .1) (bytes-packed _ _ _ _ (each-after 0 h))
+  one-byte (suc zero) h = rw (exchanged 1 h .1) (bytes-packed _ _ _ _ (each-after 1 h))
+  one-byte (suc (suc zero)) h = rw (exchanged 2 h .1) (bytes-packed _ _ _ _ (each-after 2 h))
+  one-byte (suc (suc (suc zero))) h = rw (exchanged 3 h .1) (bytes-packed _ _ _ _ (each-after 3 h))
+  one-byte (suc (suc (suc (suc k)))) h = absurd (omega arith)
 
 pub set-word : (ws : List ℕ) (p r b : ℕ) → p / 4 < length ws → windowBytes (r ∷ []) ≡ set (windowBytes (getD ws (p / 4) 0 ∷ [])) (p % 4) b → windowBytes (set ws (p / 4) r) ≡ set (windowBytes ws) p b
 unfolding windowBytes
@@ -47,10 +123,6 @@ set-word (w ∷ ws) (suc (suc (suc (suc p)))) r b h e =
     let q : suc (suc (suc (suc p))) / 4 ≡ suc (p / 4) = omega arith in
     let m : suc (suc (suc (suc p))) % 4 ≡ p % 4 = omega arith in
     rw (q, set-word ws p r b (omega arith) (rw (q, m) at e))
-
--- past the window no byte is set
-pub set-past : (ws : List ℕ) (p b : ℕ) → length ws ≤ p / 4 → set (windowBytes ws) p b ≡ windowBytes ws
-set-past ws p b h = set-out (windowBytes ws) p b (omega (arith, length-bytes ws))
 
 pub below-all : (m : ℕ) (ws : List ℕ) → ((i : ℕ) → i < length ws → getD ws i 0 < m) → Each m ws
 below-all m [] h = tt

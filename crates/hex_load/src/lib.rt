@@ -1,17 +1,17 @@
-// A HEX text is loaded into a window, a lent run of words with a start address, eight digits at a time where they stand so.
+// A HEX text is loaded into a window, a lent run of words with a start address, eight digits at a time. It is looked at whole before a
+// byte is stored; so where bytes are stored, digits are read as such.
 ghost use mathlib.Core.Path.{_≡_};
-ghost use mathlib.Core.Bool.{cond, _&&_};
+ghost use mathlib.Core.Bool.{true, _&&_};
 ghost use mathlib.Core.List.{List, [], _∷_};
 ghost use Prim.Native.Nat.{ℕ, _+_, _*_, _/_, _%_, _≤_, _<_};
 ghost use lib.ListN.{length, getD, take, drop, set};
 ghost use lib.Seq.{sets};
 ghost use lib.Dec.{eqb, ltb};
-ghost use Rattle.hex.specs.Hex.{digitNumber};
-ghost use Rattle.eight.specs.Packed.{numberOr};
+ghost use Rattle.hex.specs.Hex.{allDigits};
+ghost use Rattle.eight.specs.Packed.{numberOr, bytesOr};
 ghost use Rattle.records.specs.Window.{windowBytes, bytePlace};
-ghost use Rattle.records.specs.Record.{total};
-ghost use Rattle.records.specs.Load.{byteIn, bytesAt, isKind, upperAfter, allInside, recordCode, codeFrom, run, saidBy, said, stored, loadOf};
-ghost use Rattle.hex_load.specs.Sums.{sumFrom, recordSum, headIn};
+ghost use Rattle.records.specs.Load.{bytesIn, byteIn, isKind, isRecord, upperAfter, allInside, recordCode, codeFrom, saidBy, said, stored, loadOf};
+ghost use Rattle.hex_load.specs.Sums.{sumFrom, recordSum, headIn, partsSum, FourBytes};
 use machine::codes;
 
 const SEGMENT: u64 = 65536;
@@ -21,42 +21,28 @@ const ADDRESSES: u64 = 0x1_0000_0000;
 // The fewest bytes of a record: a colon, ten digits and LF.
 const RECORD_LEAST: usize = 12;
 
-// ---- the window
+// Above every sum of a record's bytes.
+const NO_SUM: u64 = 0x1_0000_0000;
 
-// The word of four bytes, the lowest first.
-fn joined(a: u32, b: u32, c: u32, d: u32) -> u32
-    requires { ⌜ (a < 256) × (b < 256) × (c < 256) × (d < 256) ⌝ }
-    ensures { λ r. ⌜ windowBytes (r ∷ []) ≡ a ∷ b ∷ c ∷ d ∷ [] ⌝ }
-{
-    a + 256 * b + 65536 * c + 16777216 * d
-}
+// ---- the window
 
 // A word with byte k set.
 fn with_byte(w: u32, k: usize, b: u32) -> u32
     requires { ⌜ (k < 4) × (b < 256) ⌝ }
     ensures { λ r. ⌜ windowBytes (r ∷ []) ≡ set (windowBytes (w ∷ [])) k b ⌝ }
 {
-    if k == 0 {
-        return joined(b, w / 256 % 256, w / 65536 % 256, w / 16777216 % 256);
-    }
-    if k == 1 {
-        return joined(w % 256, b, w / 65536 % 256, w / 16777216 % 256);
-    }
-    if k == 2 {
-        return joined(w % 256, w / 256 % 256, b, w / 16777216 % 256);
-    }
-    joined(w % 256, w / 256 % 256, w / 65536 % 256, b)
+    let s = 8 * k as u32;
+    let old = (w >> s) % 256;
+    w - (old << s) + (b << s)
 }
 
-// Sets byte p of the window; there is none past it.
+// Sets byte p of the window.
 fn set_byte(memory: &mut [u32], p: usize, b: u32)
-    requires { ⌜ b < 256 ⌝ }
+    requires { ⌜ (p / 4 < length (now memory)) × (b < 256) ⌝ }
     ensures { λ r. ⌜ windowBytes (now (memory .exit)) ≡ set (windowBytes (now (memory .entry))) p b ⌝ }
 {
     let i = p / 4;
-    if i < memory.len() {
-        memory[i] = with_byte(memory[i], p % 4, b);
-    }
+    memory[i] = with_byte(memory[i], p % 4, b);
 }
 
 // The place of an address among the window's bytes.
@@ -69,20 +55,12 @@ fn place(start: u32, a: u64) -> u64
 
 // ---- digits
 
-// The number of a digit; what is none counts as 0.
-fn digit(b: u8) -> u32
-    ensures { λ r. ⌜ r ≡ digitNumber b % 16 ⌝ }
-{
-    let n = hex::digit_number(b) % 16;
-    n as u32
-}
-
-// The number of the eight digits at a place, 2^32 if a byte there is none; below, of two.
-fn eight_at(text: &[u8], i: usize) -> u64
+// The four bytes that the eight digits at a place stand for, in 16 bits each; `NOT_DIGITS` if one is none.
+fn bytes_at(text: &[u8], i: usize) -> u64
     requires { ⌜ i + 8 ≤ length (now text) ⌝ }
-    ensures { λ r. ⌜ (r ≡ numberOr (take 8 (drop i (now (text .entry))))) × (r ≤ 4294967296) ⌝ }
+    ensures { λ r. ⌜ r ≡ bytesOr (take 8 (drop i (now (text .entry)))) ⌝ }
 {
-    eight::number(
+    eight::bytes(
         text[i],
         text[i + 1],
         text[i + 2],
@@ -94,6 +72,7 @@ fn eight_at(text: &[u8], i: usize) -> u64
     )
 }
 
+// The number of the two digits at a place, 2^32 if a byte there is none.
 fn two_at(text: &[u8], i: usize) -> u64
     requires { ⌜ i + 2 ≤ length (now text) ⌝ }
     ensures { λ r. ⌜ (r ≡ numberOr (take 2 (drop i (now (text .entry))))) × (r ≤ 4294967296) ⌝ }
@@ -101,31 +80,32 @@ fn two_at(text: &[u8], i: usize) -> u64
     eight::number(b'0', b'0', b'0', b'0', b'0', b'0', text[i], text[i + 1])
 }
 
-// The sum of the four bytes of a number.
-fn byte_sum(q: u64) -> u64
-    ensures { λ r. ⌜ (r ≡ total (windowBytes (q ∷ []))) × (r ≤ 1020) ⌝ }
+// The sum of the four numbers that stand in 16 bits each.
+fn parts_sum(x: u64) -> u64
+    ensures { λ r. ⌜ r ≡ partsSum x ⌝ }
 {
-    q % 256 + q / 256 % 256 + q / 0x1_0000 % 256 + q / 0x100_0000 % 256
+    x % 0x1_0000 + x / 0x1_0000 % 0x1_0000 + x / 0x1_0000_0000 % 0x1_0000 + x / 0x1_0000_0000_0000
 }
 
-// A sum, and the bytes of 8 m digits; 2^32 if one is no digit. Below, of 2 m.
-fn quads_sum(text: &[u8], from: usize, m: usize, sum: u64) -> u64
-    requires { ⌜ (from + 8 * m ≤ length (now text)) × (m ≤ 64) × (sum ≤ 1020) ⌝ }
-    ensures { λ r. ⌜ (r ≡ sumFrom sum (take (8 * m) (drop from (now (text .entry))))) × (r ≤ 4294967296) ⌝ }
+// The sum of four bytes, and of those that 8 m digits stand for; none if one is no digit. Each 16 bits are summed apart.
+fn quads_sum(text: &[u8], from: usize, m: usize, head: u64) -> u64
+    requires { ⌜ (from + 8 * m ≤ length (now text)) × (m ≤ 64) × FourBytes head ⌝ }
+    ensures { λ r. ⌜ (r ≡ sumFrom (partsSum head) (take (8 * m) (drop from (now (text .entry))))) × (r ≤ 4294967296) ⌝ }
 {
-    let mut s = sum;
+    let mut parts = head;
     let mut k = 0;
     while k < m {
-        let q = eight_at(text, from + 8 * k);
-        if q == eight::NONE {
-            return eight::NONE;
+        let q = bytes_at(text, from + 8 * k);
+        if q == eight::NOT_DIGITS {
+            return NO_SUM;
         }
-        s += byte_sum(q);
+        parts += q;
         k += 1;
     }
-    s
+    parts_sum(parts)
 }
 
+// A sum, and the bytes of 2 m digits.
 fn pairs_sum(text: &[u8], from: usize, m: usize, sum: u64) -> u64
     requires { ⌜ (from + 2 * m ≤ length (now text)) × (m < 4) × (sum ≤ 4294967296) ⌝ }
     ensures { λ r. ⌜ r ≡ sumFrom sum (take (2 * m) (drop from (now (text .entry)))) ⌝ }
@@ -134,8 +114,8 @@ fn pairs_sum(text: &[u8], from: usize, m: usize, sum: u64) -> u64
     let mut k = 0;
     while k < m {
         let q = two_at(text, from + 2 * k);
-        if q == eight::NONE {
-            return eight::NONE;
+        if q == NO_SUM {
+            return NO_SUM;
         }
         s += q;
         k += 1;
@@ -143,60 +123,36 @@ fn pairs_sum(text: &[u8], from: usize, m: usize, sum: u64) -> u64
     s
 }
 
-// A sum, and the n bytes that the digits from a place on stand for; 2^32 if one is no digit.
-fn bytes_sum(text: &[u8], from: usize, n: usize, sum: u64) -> u64
-    requires { ⌜ (from + 2 * n ≤ length (now text)) × (n ≤ 256) × (sum ≤ 1020) ⌝ }
-    ensures { λ r. ⌜ r ≡ sumFrom sum (take (2 * n) (drop from (now (text .entry)))) ⌝ }
+// The sum of four bytes, and of n that the digits from a place on stand for; none if one is no digit.
+fn bytes_sum(text: &[u8], from: usize, n: usize, head: u64) -> u64
+    requires { ⌜ (from + 2 * n ≤ length (now text)) × (n ≤ 256) × FourBytes head ⌝ }
+    ensures { λ r. ⌜ r ≡ sumFrom (partsSum head) (take (2 * n) (drop from (now (text .entry)))) ⌝ }
 {
-    let first = quads_sum(text, from, n / 4, sum);
-    if first == eight::NONE {
-        return eight::NONE;
+    let first = quads_sum(text, from, n / 4, head);
+    if first == NO_SUM {
+        return NO_SUM;
     }
     pairs_sum(text, from + 8 * (n / 4), n % 4, first)
 }
 
-// ---- the record at a place
+// ---- the record at a place, by its first four bytes
 
-// Byte k of the record at a place of the text.
-fn byte_at(text: &[u8], at: usize, k: usize) -> u32
-    requires { ⌜ (at ≤ length (now text)) × (k < 300) ⌝ }
-    ensures { λ r. ⌜ (r ≡ byteIn (drop at (now (text .entry))) k) × (r < 256) ⌝ }
+fn count_in(head: u64) -> u32
+    ensures { λ r. ⌜ (r ≡ head % 65536) × (r < 65536) ⌝ }
 {
-    if text.len() - at < 2 * k + 3 {
-        return 0;
-    }
-    let i = at + (2 * k + 1);
-    let q = two_at(text, i);
-    if q < 256 {
-        return q as u32;
-    }
-    let high = digit(text[i]);
-    let low = digit(text[i + 1]);
-    high * 16 + low
+    (head % 0x1_0000) as u32
 }
 
-// Its first four bytes as one number, one by one where the eight digits are not there.
-fn slow_head(text: &[u8], at: usize) -> u64
-    requires { ⌜ at ≤ length (now text) ⌝ }
-    ensures { λ r. ⌜ (r ≡ headIn (drop at (now (text .entry)))) × (r < 4294967296) ⌝ }
+fn kind_in(head: u64) -> u32
+    ensures { λ r. ⌜ r ≡ head / 281474976710656 ⌝ }
 {
-    let low = byte_at(text, at, 3) + 256 * byte_at(text, at, 2);
-    let high = byte_at(text, at, 1) + 256 * byte_at(text, at, 0);
-    low as u64 + SEGMENT * high as u64
+    (head / 0x1_0000_0000_0000) as u32
 }
 
-fn head_at(text: &[u8], at: usize) -> u64
-    requires { ⌜ at ≤ length (now text) ⌝ }
-    ensures { λ r. ⌜ (r ≡ headIn (drop at (now (text .entry)))) × (r < 4294967296) ⌝ }
+fn offset_in(head: u64) -> u32
+    ensures { λ r. ⌜ r ≡ head / 65536 % 65536 * 256 + head / 4294967296 % 65536 ⌝ }
 {
-    if text.len() - at < 9 {
-        return slow_head(text, at);
-    }
-    let q = eight_at(text, at + 1);
-    if q == eight::NONE {
-        return slow_head(text, at);
-    }
-    q
+    (head / 0x1_0000 % 0x1_0000 * 0x100 + head / 0x1_0000_0000 % 0x1_0000) as u32
 }
 
 // Types 00, 01 and 04, with their lengths and offsets.
@@ -233,7 +189,7 @@ fn is_framed(text: &[u8], at: usize, count: usize) -> bool
     text[at + last] == b'\n'
 }
 
-// The sum of its bytes, 2^32 if it is no record of these types; and if it is one, its first four bytes.
+// The sum of its bytes, none if it is no record of these types; and if it is one, its first four bytes.
 struct Found {
     sum: u64,
     head: u64,
@@ -241,43 +197,57 @@ struct Found {
 
 fn record_at(text: &[u8], at: usize) -> Found
     requires { ⌜ at < length (now text) ⌝ }
-    ensures { λ r. ⌜ (r .sum ≡ recordSum (drop at (now (text .entry)))) × ((r .sum ≡ 4294967296 → ⊥) → r .head ≡ headIn (drop at (now (text .entry)))) × (r .head < 4294967296) ⌝ }
+    ensures { λ r. ⌜ (r .sum ≡ recordSum (drop at (now (text .entry)))) × ((r .sum ≡ 4294967296 → ⊥) → r .head ≡ headIn (drop at (now (text .entry)))) × FourBytes (r .head) ⌝ }
 {
     let none = Found {
-        sum: eight::NONE,
+        sum: NO_SUM,
         head: 0,
     };
     if text.len() - at < RECORD_LEAST {
         return none;
     }
-    let head = eight_at(text, at + 1);
-    if head == eight::NONE {
+    let head = bytes_at(text, at + 1);
+    if head == eight::NOT_DIGITS {
         return none;
     }
-    let count = (head / 0x100_0000) as usize;
-    if !is_framed(text, at, count) {
+    let count = count_in(head);
+    if !is_framed(text, at, count as usize) {
         return none;
     }
-    if !is_kind(
-        (head % 256) as u32,
-        count as u32,
-        (head / 256 % SEGMENT) as u32,
-    ) {
+    if !is_kind(kind_in(head), count, offset_in(head)) {
         return none;
     }
     Found {
-        sum: bytes_sum(text, at + 9, count + 1, byte_sum(head)),
+        sum: bytes_sum(text, at + 9, count as usize + 1, head),
         head: head,
     }
 }
 
-// The upper bits after a record, by its first four bytes.
+// The upper bits that the record at a place gives.
+fn upper_at(text: &[u8], at: usize) -> u32
+    requires { ⌜ (at + 13 ≤ length (now text)) × (allDigits (take 4 (drop (at + 9) (now text))) ≡ true) ⌝ }
+    ensures { λ r. ⌜ (r ≡ byteIn (drop at (now (text .entry))) 4 * 256 + byteIn (drop at (now (text .entry))) 5) × (r < 65536) ⌝ }
+{
+    let w = eight::word_said(
+        text[at + 9],
+        text[at + 10],
+        text[at + 11],
+        text[at + 12],
+        b'0',
+        b'0',
+        b'0',
+        b'0',
+    );
+    w % 256 * 256 + w / 256 % 256
+}
+
+// The upper bits after a record.
 fn upper_after(text: &[u8], at: usize, head: u64, upper: u32) -> u32
-    requires { ⌜ (at ≤ length (now text)) × (head ≡ headIn (drop at (now text))) × (upper < 65536) ⌝ }
+    requires { ⌜ (isRecord (drop at (now text)) ≡ true) × (head ≡ headIn (drop at (now text))) × (upper < 65536) ⌝ }
     ensures { λ r. ⌜ (r ≡ upperAfter upper (drop at (now (text .entry)))) × (r < 65536) ⌝ }
 {
-    if head % 256 == 4 {
-        return byte_at(text, at, 4) * 256 + byte_at(text, at, 5);
+    if kind_in(head) == 4 {
+        return upper_at(text, at);
     }
     upper
 }
@@ -301,20 +271,20 @@ fn all_inside(start: u32, words: usize, a: u64, n: u32) -> bool
 
 // The lowest code that applies to a record, 0 if none does.
 fn record_code(sum: u64, head: u64, start: u32, words: usize, upper: u32) -> u32
-    requires { ⌜ (head < 4294967296) × (upper < 65536) × (words ≤ 16384) ⌝ }
+    requires { ⌜ FourBytes head × (upper < 65536) × (words ≤ 16384) ⌝ }
     ensures { λ r. ⌜ ((t : List ℕ) → sum ≡ recordSum t → ((sum ≡ 4294967296 → ⊥) → head ≡ headIn t) → r ≡ recordCode start words upper t) ⌝ }
 {
-    if sum == eight::NONE {
+    if sum == NO_SUM {
         return codes::NOT_A_HEX_RECORD;
     }
     if sum % 256 != 0 {
         return codes::WRONG_SUM;
     }
-    if head % 256 != 0 {
+    if kind_in(head) != 0 {
         return codes::DONE;
     }
-    let a = upper as u64 * SEGMENT + head / 256 % SEGMENT;
-    if all_inside(start, words, a, (head / 0x100_0000) as u32) {
+    let a = upper as u64 * SEGMENT + offset_in(head) as u64;
+    if all_inside(start, words, a, count_in(head)) {
         return codes::DONE;
     }
     codes::OUTSIDE_THE_WINDOW
@@ -335,8 +305,8 @@ fn text_code(text: &[u8], start: u32, words: usize) -> u32
         if code != codes::DONE {
             return code;
         }
-        let next = at + (2 * (head / 0x100_0000) as usize + 10 + 2);
-        if head % 256 == 1 {
+        let next = at + (2 * count_in(head) as usize + 10 + 2);
+        if kind_in(head) == 1 {
             return if next < text.len() {
                 codes::NO_END_OR_NOT_LAST
             } else {
@@ -351,89 +321,131 @@ fn text_code(text: &[u8], start: u32, words: usize) -> u32
 
 // ---- the stores
 
-// The word whose bytes are those of a number, the highest first.
-fn swapped(q: u64) -> u32
-    requires { ⌜ q < 4294967296 ⌝ }
-    ensures { λ r. ⌜ windowBytes (r ∷ []) ≡ q / 16777216 ∷ q / 65536 % 256 ∷ q / 256 % 256 ∷ q % 256 ∷ [] ⌝ }
+// The word of the four bytes that the eight digits at a place stand for.
+fn word_at(text: &[u8], i: usize) -> u32
+    requires { ⌜ (i + 8 ≤ length (now text)) × (allDigits (take 8 (drop i (now text))) ≡ true) ⌝ }
+    ensures { λ r. ⌜ windowBytes (r ∷ []) ≡ bytesIn (take 8 (drop i (now (text .entry)))) ⌝ }
 {
-    let v = q as u32;
-    joined(v / 16777216, v / 65536 % 256, v / 256 % 256, v % 256)
+    eight::word_said(
+        text[i],
+        text[i + 1],
+        text[i + 2],
+        text[i + 3],
+        text[i + 4],
+        text[i + 5],
+        text[i + 6],
+        text[i + 7],
+    )
 }
 
-// Stores four bytes of the record at a place, from byte k on, as the word at byte p of the window, and answers that it did; not where
-// fewer are left, where no word begins or where eight digits are not there.
-fn store_quad(memory: &mut [u32], p: u64, text: &[u8], at: usize, k: usize, left: u32) -> bool
-    requires { ⌜ (p < 4294967296) × (at ≤ length (now text)) × (k < 260) ⌝ }
-    ensures { λ r. ⌜ (windowBytes (now (memory .exit)) ≡ cond r (sets (windowBytes (now (memory .entry))) p (bytesAt (drop at (now (text .entry))) k 4)) (windowBytes (now (memory .entry)))) × (cond r (p + 4) 0 ≤ 4294967296) × (cond r 4 0 ≤ left) ⌝ }
+// The byte that the two digits at a place stand for.
+fn byte_at(text: &[u8], i: usize) -> u32
+    requires { ⌜ (i + 2 ≤ length (now text)) × (allDigits (take 2 (drop i (now text))) ≡ true) ⌝ }
+    ensures { λ r. ⌜ (r ∷ [] ≡ bytesIn (take 2 (drop i (now (text .entry))))) × (r < 256) ⌝ }
 {
-    if left < 4 {
-        return false;
-    }
-    if p % 4 != 0 {
-        return false;
-    }
-    let i = (p / 4) as usize;
-    if memory.len() <= i {
-        return false;
-    }
-    if text.len() - at < 2 * k + 9 {
-        return false;
-    }
-    let q = eight_at(text, at + (2 * k + 1));
-    if q == eight::NONE {
-        return false;
-    }
-    memory[i] = swapped(q);
-    true
+    eight::word_said(text[i], text[i + 1], b'0', b'0', b'0', b'0', b'0', b'0')
 }
 
-// Stores the record's byte k at byte p of the window, or four from it on, of `left` that there are; it answers how many.
-fn store_some(memory: &mut [u32], p: u64, text: &[u8], at: usize, k: usize, left: u32) -> u32
-    requires { ⌜ (p < 4294967296) × (at ≤ length (now text)) × (k < 260) × (0 < left) ⌝ }
-    ensures { λ r. ⌜ (0 < r) × (r ≤ left) × (p + r ≤ 4294967296) × (windowBytes (now (memory .exit)) ≡ sets (windowBytes (now (memory .entry))) p (bytesAt (drop at (now (text .entry))) k r)) ⌝ }
+// Stores the bytes that 8 m digits stand for, from word i of the window on.
+fn store_words(memory: &mut [u32], i: usize, text: &[u8], from: usize, m: usize)
+    requires { ⌜ (i + m ≤ length (now memory)) × (from + 8 * m ≤ length (now text)) × (m ≤ 64) × (allDigits (take (8 * m) (drop from (now text))) ≡ true) ⌝ }
+    ensures { λ r. ⌜ windowBytes (now (memory .exit)) ≡ sets (windowBytes (now (memory .entry))) (4 * i) (bytesIn (take (8 * m) (drop from (now (text .entry))))) ⌝ }
 {
-    if store_quad(memory, p, text, at, k, left) {
-        return 4;
+    let mut k = 0;
+    while k < m {
+        memory[i + k] = word_at(text, from + 8 * k);
+        k += 1;
     }
-    set_byte(memory, p as usize, byte_at(text, at, k));
-    1
 }
 
-// Stores n bytes of the record at a place, from byte 4 on, at an address and those after it.
-fn store_bytes(memory: &mut [u32], start: u32, a: u64, text: &[u8], at: usize, n: u32)
-    requires { ⌜ (a < 4294967296) × (at ≤ length (now text)) × (n < 256) ⌝ }
-    ensures { λ r. ⌜ windowBytes (now (memory .exit)) ≡ stored start (windowBytes (now (memory .entry))) (run a (bytesAt (drop at (now (text .entry))) 4 n)) ⌝ }
+// Stores the n bytes that 2 n digits stand for, from byte p of the window on, one by one.
+fn store_singly(memory: &mut [u32], p: usize, text: &[u8], from: usize, n: usize)
+    requires { ⌜ (p + n ≤ 4 * length (now memory)) × (length (now memory) ≤ 16384) × (from + 2 * n ≤ length (now text)) × (n < 256) × (allDigits (take (2 * n) (drop from (now text))) ≡ true) ⌝ }
+    ensures { λ r. ⌜ windowBytes (now (memory .exit)) ≡ sets (windowBytes (now (memory .entry))) p (bytesIn (take (2 * n) (drop from (now (text .entry))))) ⌝ }
 {
     let mut k = 0;
     while k < n {
-        let p = place(start, a + k as u64);
-        k += store_some(memory, p, text, at, k as usize + 4, n - k);
+        set_byte(memory, p + k, byte_at(text, from + 2 * k));
+        k += 1;
     }
 }
 
-// Stores what the record at a place says, by its first four bytes.
+// The same where a word begins: by words, and what is left of them.
+fn store_aligned(memory: &mut [u32], p: usize, text: &[u8], from: usize, n: usize)
+    requires { ⌜ (p % 4 ≡ 0) × (p + n ≤ 4 * length (now memory)) × (length (now memory) ≤ 16384) × (from + 2 * n ≤ length (now text)) × (n < 256) × (allDigits (take (2 * n) (drop from (now text))) ≡ true) ⌝ }
+    ensures { λ r. ⌜ windowBytes (now (memory .exit)) ≡ sets (windowBytes (now (memory .entry))) p (bytesIn (take (2 * n) (drop from (now (text .entry))))) ⌝ }
+{
+    let m = n / 4;
+    store_words(memory, p / 4, text, from, m);
+    store_singly(memory, p + 4 * m, text, from + 8 * m, n - 4 * m);
+}
+
+// How many of n bytes, from byte p of the window on, stand before the next word.
+fn before_word(p: usize, n: usize) -> usize
+    ensures { λ r. ⌜ (r ≤ n) × (r < 4) × (r < n → (p + r) % 4 ≡ 0) ⌝ }
+{
+    let k = (4 - p % 4) % 4;
+    if n < k {
+        return n;
+    }
+    k
+}
+
+// The same anywhere: first what stands before the next word.
+fn store_bytes(memory: &mut [u32], p: usize, text: &[u8], from: usize, n: usize)
+    requires { ⌜ (p + n ≤ 4 * length (now memory)) × (length (now memory) ≤ 16384) × (from + 2 * n ≤ length (now text)) × (n < 256) × (allDigits (take (2 * n) (drop from (now text))) ≡ true) ⌝ }
+    ensures { λ r. ⌜ windowBytes (now (memory .exit)) ≡ sets (windowBytes (now (memory .entry))) p (bytesIn (take (2 * n) (drop from (now (text .entry))))) ⌝ }
+{
+    let k = before_word(p, n);
+    store_singly(memory, p, text, from, k);
+    if k < n {
+        store_aligned(memory, p + k, text, from + 2 * k, n - k);
+    }
+}
+
+// Stores what the record at a place says.
 fn store_record(memory: &mut [u32], start: u32, text: &[u8], at: usize, head: u64, upper: u32)
-    requires { ⌜ (at ≤ length (now text)) × (head ≡ headIn (drop at (now text))) × (head < 4294967296) × (upper < 65536) ⌝ }
+    requires { ⌜ (recordCode start (length (now memory)) upper (drop at (now text)) ≡ 0) × (head ≡ headIn (drop at (now text))) × (upper < 65536) × (length (now memory) ≤ 16384) ⌝ }
     ensures { λ r. ⌜ windowBytes (now (memory .exit)) ≡ stored start (windowBytes (now (memory .entry))) (saidBy upper (drop at (now (text .entry)))) ⌝ }
 {
-    if head % 256 == 0 {
-        let a = upper as u64 * SEGMENT + head / 256 % SEGMENT;
-        store_bytes(memory, start, a, text, at, (head / 0x100_0000) as u32);
+    let n = count_in(head) as usize;
+    if kind_in(head) == 0 {
+        if 0 < n {
+            let p = place(start, upper as u64 * SEGMENT + offset_in(head) as u64);
+            store_bytes(memory, p as usize, text, at + 9, n);
+        }
     }
 }
 
-// Stores what a text says.
+// The first four bytes of the record at a place.
+fn head_at(text: &[u8], at: usize) -> u64
+    requires { ⌜ (at + 9 ≤ length (now text)) × (isRecord (drop at (now text)) ≡ true) ⌝ }
+    ensures { λ r. ⌜ r ≡ headIn (drop at (now (text .entry))) ⌝ }
+{
+    eight::bytes_said(
+        text[at + 1],
+        text[at + 2],
+        text[at + 3],
+        text[at + 4],
+        text[at + 5],
+        text[at + 6],
+        text[at + 7],
+        text[at + 8],
+    )
+}
+
+// Stores what a text says to which no code applies.
 fn store_text(memory: &mut [u32], start: u32, text: &[u8])
+    requires { ⌜ (codeFrom (length (now text)) start (length (now memory)) 0 (now text) ≡ 0) × (length (now memory) ≤ 16384) ⌝ }
     ensures { λ r. ⌜ windowBytes (now (memory .exit)) ≡ stored start (windowBytes (now (memory .entry))) (said (now (text .entry))) ⌝ }
 {
     let mut at = 0;
     let mut upper = 0;
     while at < text.len() {
         let head = head_at(text, at);
-        let given = upper_after(text, at, head, upper);
         store_record(memory, start, text, at, head, upper);
-        upper = given;
-        at = at + (2 * (head / 0x100_0000) as usize + 10 + 2);
+        upper = upper_after(text, at, head, upper);
+        at = at + (2 * count_in(head) as usize + 10 + 2);
     }
 }
 

@@ -15,6 +15,14 @@ text-code-requires c κs =
     let a = c .before .before .before .before .args in
     good-window (a .start) (length (now (a .memory))) (sym (c .before .is-window-out-of-form .ensures) ∙ c .if1 .left)
 
+store-text-requires : tie.Need-store-text-requires
+store-text-requires c κs =
+    let i = c .before in
+    let k = i .before in
+    let w = k .before in
+    let a = w .before .before .before .before .args in
+    (sym (k .text-code .ensures) ∙ i .if2 .taken, good-window (a .start) (length (now (a .memory))) (sym (w .before .is-window-out-of-form .ensures) ∙ w .if1 .left))
+
 returns-2 : tie.Need-returns-2
 returns-2 c =
     let s = c .before .before in
@@ -33,4 +41,4 @@ returns-3 c =
 
 pub load-spec : {M : Type 1} → statement M
 load-spec =
-    tie.close (tie.spec (λ c κs. search needs) returns text-code-requires (λ c κs. search needs) (λ c. search needs) returns-2 returns-3)
+    tie.close (tie.spec (λ c κs. search needs) returns text-code-requires store-text-requires (λ c. search needs) returns-2 returns-3)

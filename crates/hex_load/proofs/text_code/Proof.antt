@@ -1,16 +1,16 @@
 use denote.Ref.{now}
 use mathlib.Core.Path.{_≡_, refl, sym, _∙_}
-use Prim.Native.Nat.{ℕ, _+_, _*_, _/_, _≤_, _<_, _-_}
+use Prim.Native.Nat.{ℕ, _+_, _*_, _≤_, _<_, _-_}
 use native.Mathlib.Nat.{le-refl}
 use native.Mathlib.Omega.{arith}
 use lib.ListN.{length, drop, length-drop, drop-of-length-le}
-use mathlib.Core.Bool.{cond}
+use mathlib.Core.Bool.{true, cond}
 use lib.Dec.{eqb}
 use borrow.Author.Tests.{ne-eqb}
-use Rattle.records.specs.Load.{byteIn, kindIn, offsetIn, recordCode, codeFrom}
+use Rattle.records.specs.Load.{byteIn, kindIn, isRecord, recordCode, codeFrom}
 use Rattle.records.proofs.Steps.{less}
 use Rattle.hex_load.specs.Sums.{headIn}
-use Rattle.hex_load.proofs.Records.{rest-at, head-parts, zero-says}
+use Rattle.hex_load.proofs.Records.{rest-at, head-parts, record-fits, zero-says, code-says}
 use Rattle.hex_load.proofs.Texts.{rest-less, code-none, code-refused, code-ended, code-more}
 use borrow.Author.Needs.{needs}
 use Rattle.hex_load.proofs.text_code.Statement.{statement}
@@ -42,27 +42,58 @@ code-at k =
     let a = l .before .before .args in
     k .record-code .ensures (drop (l .loop .at) (now (a .text))) (r .record-at .ensures .0) (r .record-at .ensures .1)
 
+good : (i : tie.Else1 Inv-loop μ-loop)
+    → (let l = i .before .before .before .before in
+    let a = l .before .before .args in
+    recordCode (a .start) (a .words) (l .loop .upper) (drop (l .loop .at) (now (a .text))) ≡ 0)
+good i = sym (code-at (i .before)) ∙ i .if1 .left
+
+is-record : (i : tie.Else1 Inv-loop μ-loop) → (let l = i .before .before .before .before in isRecord (drop (l .loop .at) (now (l .before .before .args .text))) ≡ true)
+is-record i =
+    let l = i .before .before .before .before in
+    let a = l .before .before .args in
+    code-says (a .start) (a .words) (l .loop .upper) (drop (l .loop .at) (now (a .text))) (good i) .0
+
 head-is : (i : tie.Else1 Inv-loop μ-loop)
     → (let r = i .before .before in
     let l = r .before .before in
     r .record-at .result .head ≡ headIn (drop (l .loop .at) (now (l .before .before .args .text))))
 head-is i =
-    let k = i .before in
-    let r = k .before in
-    let l = r .before .before in
-    let a = l .before .before .args in
-    r .record-at .ensures .1 (λ z. zero-says (a .start) (a .words) (l .loop .upper) (drop (l .loop .at) (now (a .text))) (sym (code-at k) ∙ i .if1 .left) (sym (r .record-at .ensures .0) ∙ z))
-
--- where the next record begins
-next-is : (i : tie.Else1 Inv-loop μ-loop)
-    → (let r = i .before .before in
-    let l = r .before .before in
-    let h = r .record-at .result .head in
-    l .loop .at + (2 * (h / 16777216) + 10 + 2) ≡ l .loop .at + (2 * byteIn (drop (l .loop .at) (now (l .before .before .args .text))) 0 + 10 + 2))
-next-is i =
     let r = i .before .before in
     let l = r .before .before in
-    rw (head-parts (drop (l .loop .at) (now (l .before .before .args .text))) (r .record-at .result .head) (head-is i) .0)
+    let a = l .before .before .args in
+    r .record-at .ensures .1 (λ z. zero-says (a .start) (a .words) (l .loop .upper) (drop (l .loop .at) (now (a .text))) (good i) (sym (r .record-at .ensures .0) ∙ z))
+
+count-is : (n : tie.After-count-in Inv-loop μ-loop)
+    → (let l = n .before .before .before .before .before in
+    n .count-in .result ≡ byteIn (drop (l .loop .at) (now (l .before .before .args .text))) 0)
+count-is n =
+    let i = n .before in
+    let r = i .before .before in
+    let l = r .before .before in
+    n .count-in .ensures .0 ∙ head-parts (drop (l .loop .at) (now (l .before .before .args .text))) (r .record-at .result .head) (head-is i) .0
+
+kind-is : (k : tie.After-kind-in Inv-loop μ-loop)
+    → (let l = k .before .before .before .before .before .before in
+    k .kind-in .result ≡ kindIn (drop (l .loop .at) (now (l .before .before .args .text))))
+kind-is k =
+    let i = k .before .before in
+    let r = i .before .before in
+    let l = r .before .before in
+    k .kind-in .ensures ∙ head-parts (drop (l .loop .at) (now (l .before .before .args .text))) (r .record-at .result .head) (head-is i) .1
+
+-- where the next record begins
+next-is : (n : tie.After-count-in Inv-loop μ-loop)
+    → (let l = n .before .before .before .before .before in
+    l .loop .at + (2 * n .count-in .result + 10 + 2) ≡ l .loop .at + (2 * byteIn (drop (l .loop .at) (now (l .before .before .args .text))) 0 + 10 + 2))
+next-is n = rw (count-is n)
+
+ends : (n : tie.After-count-in Inv-loop μ-loop)
+    → (let l = n .before .before .before .before .before in
+    l .loop .at + (2 * n .count-in .result + 12) ≤ length (now (l .before .before .args .text)))
+ends n =
+    let l = n .before .before .before .before .before in
+    omega (arith, count-is n, record-fits (now (l .before .before .args .text)) (l .loop .at) (is-record (n .before)))
 
 returns : tie.Need-returns Inv-loop μ-loop
 returns c =
@@ -75,60 +106,58 @@ returns c =
 
 -- past the end record
 ended : (e : tie.Then2 Inv-loop μ-loop)
-    → (let i = e .before in
-    let l = i .before .before .before .before in
+    → (let n = e .before .before in
+    let l = n .before .before .before .before .before in
     let a = l .before .before .args in
-    codeFrom (length (now (a .text))) (a .start) (a .words) 0 (now (a .text))
-    ≡ cond (eqb (length (drop (l .loop .at + (2 * (i .before .before .record-at .result .head / 16777216) + 10 + 2)) (now (a .text)))) 0) 0 19)
+    codeFrom (length (now (a .text))) (a .start) (a .words) 0 (now (a .text)) ≡ cond (eqb (length (drop (l .loop .at + (2 * n .count-in .result + 10 + 2)) (now (a .text)))) 0) 0 19)
 ended e =
-    let i = e .before in
-    let r = i .before .before in
-    let l = r .before .before in
+    let k = e .before in
+    let n = k .before in
+    let i = n .before in
+    let l = i .before .before .before .before in
     let a = l .before .before .args in
     let v = l .loop .inv in
     let t = drop (l .loop .at) (now (a .text)) in
-    let kind = head-parts t (r .record-at .result .head) (head-is i) .1 in
-    v .3 ∙ code-ended (a .start) (a .words) (l .loop .upper) t (rw length-drop (omega arith)) (v .0) (v .1) (sym (code-at (i .before)) ∙ i .if1 .left) (sym kind ∙ e .if2 .taken)
-    ∙ rw (rest-at (now (a .text)) (l .loop .at) _ (next-is i))
+    v .3 ∙ code-ended (a .start) (a .words) (l .loop .upper) t (rw length-drop (omega arith)) (v .0) (v .1) (good i) (sym (kind-is k) ∙ e .if2 .taken)
+    ∙ rw (rest-at (now (a .text)) (l .loop .at) _ (next-is n))
 
 returns-2 : tie.Need-returns-2 Inv-loop μ-loop
 returns-2 c =
     let e = c .before in
-    let r = e .before .before .before in
-    let l = r .before .before in
+    let n = e .before .before in
+    let l = n .before .before .before .before .before in
     let a = l .before .before .args in
-    let next = l .loop .at + (2 * (r .record-at .result .head / 16777216) + 10 + 2) in
+    let next = l .loop .at + (2 * n .count-in .result + 10 + 2) in
     sym (ended e ∙ rw (ne-eqb (length (drop next (now (a .text)))) 0 (λ z. omega (arith, z, length-drop next (now (a .text)), c .if3 .taken))))
 
 returns-3 : tie.Need-returns-3 Inv-loop μ-loop
 returns-3 c =
     let e = c .before in
-    let l = e .before .before .before .before .before in
+    let l = e .before .before .before .before .before .before .before in
     let a = l .before .before .args in
     sym (ended e ∙ rw (drop-of-length-le (now (a .text)) (c .if3 .left)))
 
 upper-after-requires : tie.Need-upper-after-requires Inv-loop μ-loop
 upper-after-requires c κs =
-    let i = c .before in
+    let i = c .before .before .before in
     let l = i .before .before .before .before in
-    (omega arith, head-is i, l .loop .inv .2)
+    (is-record i, head-is i, l .loop .inv .2)
 
 loop-again : tie.Need-loop-again Inv-loop μ-loop
 loop-again c =
     let e = c .before in
-    let i = e .before in
-    let r = i .before .before in
-    let l = r .before .before in
+    let k = e .before in
+    let n = k .before in
+    let i = n .before in
+    let l = i .before .before .before .before in
     let a = l .before .before .args in
     let v = l .loop .inv in
     let t = drop (l .loop .at) (now (a .text)) in
-    let kind = head-parts t (r .record-at .result .head) (head-is i) .1 in
-    let q = rest-at (now (a .text)) (l .loop .at) _ (next-is i) in (
+    let q = rest-at (now (a .text)) (l .loop .at) _ (next-is n) in (
       less (v .0),
       rw (← q) (rest-less t (v .0) (rw length-drop (omega arith)) (v .1)),
       c .upper-after .ensures .1,
-      v .3 ∙ code-more (a .start) (a .words) (l .loop .upper) t (rw length-drop (omega arith)) (v .0) (v .1) (sym (code-at (i .before)) ∙ i .if1 .left) (λ z. e .if2 .left (kind ∙ z))
-          ∙ rw (q, c .upper-after .ensures .0),
+      v .3 ∙ code-more (a .start) (a .words) (l .loop .upper) t (rw length-drop (omega arith)) (v .0) (v .1) (good i) (λ z. e .if2 .left (kind-is k ∙ z)) ∙ rw (q, c .upper-after .ensures .0),
     )
 
 returns-4 : tie.Need-returns-4 Inv-loop μ-loop
@@ -139,4 +168,4 @@ returns-4 c =
     sym (v .3 ∙ rw (drop-of-length-le (now (a .text)) {i = l .loop .at} (c .loop-test .left)) (code-none (v .0) (a .start) (a .words) (l .loop .upper)))
 
 pub text-code-spec : {M : Type 1} → statement M
-text-code-spec = tie.close (tie.spec Inv-loop μ-loop loop-holds (λ c κs. search needs) record-code-requires returns (λ c. omega (arith, c .before .before .record-at .ensures .2)) (λ c. omega (arith, c .before .before .record-at .ensures .2)) (λ c. omega (arith, c .before .before .record-at .ensures .2)) (λ c. omega (arith, c .before .before .record-at .ensures .2)) returns-2 returns-3 upper-after-requires (λ c. omega arith) loop-again returns-4)
+text-code-spec = tie.close (tie.spec Inv-loop μ-loop loop-holds (λ c κs. search needs) record-code-requires returns (λ c κs. search needs) (λ c. omega (arith, c .count-in .ensures .1)) (λ c. omega (arith, c .count-in .ensures .1)) (λ c. omega (arith, c .count-in .ensures .1)) (λ c. omega (arith, c .count-in .ensures .1)) (λ c. omega (arith, ends c)) (λ c κs. search needs) returns-2 returns-3 upper-after-requires (λ c. omega arith) loop-again returns-4)

@@ -1,29 +1,17 @@
-use mathlib.Core.Path.{_≡_}
-use Rattle.records.specs.Window.{windowBytes}
 use native.Mathlib.Omega.{arith}
+use Rattle.hex_load.proofs.Words.{taken-le, changed-fits, one-byte}
 use borrow.Author.Needs.{needs}
 use Rattle.hex_load.proofs.with_byte.Statement.{statement}
 use Rattle.hex_load.proofs.with_byte.Tie as tie
 
+sub-result : tie.Need-sub-result
+sub-result c = taken-le (c .args .w) (c .args .b) (omega (arith, c .fits .w)) (c .pre .1) (c .args .k) (c .pre .0)
+
+add-result : tie.Need-add-result
+add-result c = record { fits = changed-fits (c .args .w) (c .args .b) (omega (arith, c .fits .w)) (c .pre .1) (c .args .k) (c .pre .0) }
+
 returns : tie.Need-returns
-unfolding windowBytes
-returns c = rw (c .before .if1 .taken) (c .joined .ensures)
-
-returns-2 : tie.Need-returns-2
-unfolding windowBytes
-returns-2 c = rw (c .before .if2 .taken) (c .joined2 .ensures)
-
-returns-3 : tie.Need-returns-3
-unfolding windowBytes
-returns-3 c = rw (c .before .if3 .taken) (c .joined3 .ensures)
-
-returns-4 : tie.Need-returns-4
-unfolding windowBytes
-returns-4 c =
-    let i = c .before .before .before .before in
-    let three : i .args .k ≡ 3 = omega arith in
-    rw three (c .joined4 .ensures)
+returns c = one-byte (c .args .w) (c .args .b) (omega (arith, c .fits .w)) (c .pre .1) (c .args .k) (c .pre .0)
 
 pub with-byte-spec : {M : Type 1} → statement M
-with-byte-spec =
-    tie.close (tie.spec (λ c κs. search needs) returns (λ c κs. search needs) returns-2 (λ c κs. search needs) returns-3 (λ c κs. search needs) returns-4)
+with-byte-spec = tie.close (tie.spec (λ c. search needs) (λ c. search needs) (λ c. search needs) (λ c. search needs) sub-result (λ c. search needs) add-result returns)
