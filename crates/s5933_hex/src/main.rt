@@ -3,6 +3,10 @@
 // of a HEX text in eight digits; after `L` that text; frames. What a text and a piece of frames do is proved of `hex_load`,
 // `hex_export` and `log`; that they come in this order is read here and tested.
 ghost use Prim.Native.Nat.{_≤_, _<_};
+ghost use mathlib.Core.Path.{_≡_};
+ghost use mathlib.Core.Bool.{true};
+ghost use lib.ListN.{length};
+ghost use Rattle.log.specs.Results.{isWithin};
 use hex_export::Exported;
 use libc::STDERR_FILENO;
 use libc::STDIN_FILENO;
@@ -30,10 +34,9 @@ enum Ended {
 // ---- writing
 
 // Writes the first n bytes, and answers whether it could.
-fn write_first(out: &[u8], n: usize) -> bool {
-    if out.len() < n {
-        return false;
-    }
+fn write_first(out: &[u8], n: usize) -> bool
+    requires { ⌜ n ≤ length (now out) ⌝ }
+{
     let is_written = io::write_all(STDOUT_FILENO, &out[..n]);
     if is_written {
         return true;
@@ -47,7 +50,9 @@ fn after_write(is_written: bool, on: Ended) -> Ended {
 }
 
 // Writes the log that stands at the output's start, if it is asked for.
-fn write_log(log: Logged, out: &[u8], is_shown: bool) -> bool {
+fn write_log(log: Logged, out: &[u8], is_shown: bool) -> bool
+    requires { ⌜ isWithin log (now out) ≡ true ⌝ }
+{
     match log {
         Logged::Written(n) => {
             if is_shown {

@@ -1,0 +1,11 @@
+use Rattle.s5933_hex.proofs.Within.{refusal-within}
+use borrow.Author.Needs.{needs}
+use Rattle.s5933_hex.proofs.refuse_set.Statement.{statement}
+use Rattle.s5933_hex.proofs.refuse_set.Tie as tie
+
+write-first-requires : tie.Need-write-first-requires
+write-first-requires c κs = refusal-within (c .before .before .before .put-refusal .ensures)
+
+pub refuse-set-spec : {M : Type 1} → statement M
+refuse-set-spec =
+    tie.close (tie.spec (λ c κs. search needs) write-first-requires (λ c κs. search needs) (λ c. search needs) (λ c. search needs))
