@@ -27,6 +27,29 @@ pub struct Bank {
     pub write_right: bool,
 }
 
+// The same numbers, copied one by one. Copied as a whole they are taken in pairs by the compiler, in other pairs elsewhere, and what it
+// cannot tell apart is stored and read again at every step.
+pub fn copied(b: Bank) -> Bank
+    ensures { λ r. ⌜ r ≡ b ⌝ }
+{
+    Bank {
+        marks: b.marks,
+        intcsr: b.intcsr,
+        mcsr: b.mcsr,
+        aint: b.aint,
+        read_address: b.read_address,
+        read_count: ByteCount(b.read_count.0),
+        pci_head: b.pci_head,
+        pci_fill: WordFill(b.pci_fill.0),
+        write_address: b.write_address,
+        write_count: ByteCount(b.write_count.0),
+        addon_head: b.addon_head,
+        addon_fill: WordFill(b.addon_fill.0),
+        read_right: b.read_right,
+        write_right: b.write_right,
+    }
+}
+
 // The numbers of a controller, and its three runs of words: the mailbox words, the places of the FIFO from PCI and of the FIFO from the Add-On.
 pub fn bank_of(c: Controller) -> Bank
     ensures { λ r. ⌜ stateIn r (c .mail) (c .«from_pci» .fifo .words) (c .«from_addon» .fifo .words) ≡ stateOf c ⌝ }

@@ -18,7 +18,7 @@ use lib.Seq.{drop-drop, getD-drop}
 use lib.Dec.{ltb, eqb}
 use borrow.Author.Tests.{ne-eqb, eqb-true, ltb-true, le-ltb}
 use Rattle.laws.proofs.Below.{both}
-use Rattle.eight.specs.Packed.{apart, Each, saidIn, bytesOr}
+use Rattle.eight.specs.Packed.{apart, saidIn, bytesOr}
 use Rattle.hex.specs.Hex.{allDigits}
 use Rattle.hex.proofs.Numbers.{all-append}
 use Rattle.records.specs.Record.{total}

@@ -1,30 +1,24 @@
 -- The loops that store the bytes of a record, and what they leave.
---     sets-append                    stores after stores
 --     split-bytes                    the bytes of digits in two parts
 --     parts-stored, aligned-stored   bytes stored part by part
 --     words-turn, singly-turn        a turn of each loop
 --     inside-window, run-stored      the bytes of a record in the window
 --     said-data, said-other, said-empty    what a record says
-use Prim.Native.Nat.{ℕ, zero, suc, _+_, _-_, _*_, _/_, _%_, _^_, _<_, _≤_}
+use Prim.Native.Nat.{ℕ, _+_, _-_, _*_, _/_, _%_, _^_, _<_, _≤_}
 use mathlib.Core.Path.{_≡_, refl, sym, ap, _∙_}
 use mathlib.Core.Bool.{Bool, true, false, true≢false, cond}
 use mathlib.Core.List.{List, [], _∷_, _++_}
-use native.Mathlib.Nat.{add-zero, add-suc, suc-add, sub-zero}
 use native.Mathlib.Omega.{arith}
-use lib.ListN.{length, getD, take, drop, set}
+use lib.ListN.{length, take, drop, set}
 use lib.Seq.{sets}
 use lib.Dec.{ltb, eqb}
 use borrow.Author.Tests.{ltb-true, ltb-false, ne-eqb}
-use Rattle.hex.specs.Hex.{allDigits}
+use Rattle.laws.proofs.Stores.{sets-append}
 use Rattle.records.specs.Window.{windowBytes, bytePlace}
-use Rattle.records.specs.Load.{Said, bytesIn, bytesAt, kindIn, countIn, addressIn, contentIn, allInside, run, saidBy, stored}
+use Rattle.records.specs.Load.{bytesIn, bytesAt, kindIn, countIn, addressIn, contentIn, allInside, run, saidBy, stored}
 use Rattle.records.proofs.Promises.{run-same, stored-run}
 use Rattle.hex_load.proofs.Words.{set-quad, place-back, one-outside}
-use Rattle.hex_load.proofs.Sums.{take-split, take-eight, take-two, all-part, in-append, in-long, there}
-
-pub sets-append : (w : List ℕ) (p : ℕ) (xs ys : List ℕ) → sets w p (xs ++ ys) ≡ sets (sets w p xs) (p + length xs) ys
-sets-append w p [] ys = rw add-zero
-sets-append w p (x ∷ xs) ys = rw (add-suc, ← suc-add) (sets-append (set w p x) (suc p) xs ys)
+use Rattle.hex_load.proofs.Sums.{take-split, take-eight, in-append, in-long, there}
 
 -- the bytes of 2 (m + n) digits, from a place on
 module _ (s : List ℕ) (from m n : ℕ) (fits : from + 2 * (m + n) ≤ length s) where
@@ -44,7 +38,7 @@ module _ (s : List ℕ) (from m n : ℕ) (fits : from + 2 * (m + n) ≤ length s
 
   -- stored one part after the other
   pub split-bytes : (w : List ℕ) (p : ℕ) → sets w p (bytesIn (take (2 * (m + n)) (drop from s))) ≡ sets (sets w p first) (p + m) second
-  split-bytes w p = rw in-parts (sets-append w p first second ∙ rw length-first)
+  split-bytes w p = rw in-parts (sym (sets-append w p first second) ∙ rw length-first)
 
 -- the bytes of 2 n digits, stored in two parts
 pub parts-stored : (s : List ℕ) (from n k p : ℕ) (w : List ℕ) → k ≤ n → from + 2 * n ≤ length s

@@ -7,3 +7,4 @@ pub mod KindNumbers
 pub mod Done
 pub mod Form
 pub mod Refused
+pub mod Stores

@@ -1,4 +1,4 @@
--- Runs of stores, `sets`: a run after a run, a run that ends with one more, and a turn of a loop that stores from the front.
+-- Runs of stores, `sets`: a run that ends with one more, and a turn of a loop that stores from the front.
 -- None asks that a store is within the list.
 use Prim.Native.Nat.{ℕ, suc, _+_, _≤_, _<_}
 use mathlib.Core.Path.{_≡_, refl, sym, ap, _∙_}
@@ -8,13 +8,9 @@ use native.Mathlib.Numerals.{add-one}
 use native.Mathlib.Omega.{arith}
 use lib.ListN.{length, getD, drop, set, drop-of-length-le, length-append}
 use lib.Seq.{sets, set-comm, drop-cons, length-sets}
+use Rattle.laws.proofs.Stores.{sets-append}
 use Rattle.logline.specs.Wrote.{Wrote}
 use Rattle.logline.specs.Promises.{WroteUnique}
-
--- `bs` are stored where `xs` end
-sets-append : (l : List ℕ) (i : ℕ) (xs bs : List ℕ) → sets (sets l i xs) (i + length xs) bs ≡ sets l i (xs ++ bs)
-sets-append l i [] bs = rw add-zero
-sets-append l i (a ∷ xs) bs = rw (add-suc, ← suc-add) (sets-append (set l i a) (suc i) xs bs)
 
 -- the last one first
 pub sets-snoc : (l : List ℕ) (i : ℕ) (xs : List ℕ) (b : ℕ) → sets l i (xs ++ (b ∷ [])) ≡ sets (set l (i + length xs) b) i xs

@@ -44,7 +44,7 @@ pub fn settled(b: Bank) -> Bank
 {
     let read_right = b.read_right & !is_read_ended(b);
     let write_right = b.write_right & !is_write_ended(b);
-    let mut next = b;
+    let mut next = bank::copied(b);
     next.read_right = read_right;
     next.write_right = write_right;
     next

@@ -58,7 +58,8 @@ fn answered(b: Bank, code: u32, address: u32, value: u32, enables: u32, changed:
         addon_line,
         changed,
     };
-    Banked { bank: b, answer }
+    let bank = bank::copied(b);
+    Banked { bank, answer }
 }
 
 // Code 13: the abort flags are set, which ends both rights, and the address answered.
@@ -415,10 +416,11 @@ fn settled(r: Banked) -> Banked
     ensures { λ q. ⌜ ((mail pci addon memory : List ℕ) → outcomeIn q mail pci addon memory ≡ settledOutcome (outcomeIn r mail pci addon memory)) ⌝ }
 {
     let b = r.bank;
-    if !(b.read_right | b.write_right) {
-        return r;
-    }
     let answer = r.answer;
+    if !(b.read_right | b.write_right) {
+        let bank = bank::copied(b);
+        return Banked { bank, answer };
+    }
     if answer.code != codes::DONE {
         return r;
     }

@@ -1,8 +1,8 @@
-use mathlib.Core.Path.{_≡_, refl}
+use mathlib.Core.Path.{refl}
 use mathlib.Core.List.{[], _∷_}
 use Prim.Native.Nat.{_%_}
 use native.Mathlib.Omega.{arith}
-use lib.Bits.{bitAnd, and-le-r}
+use lib.Bits.{and-le-r}
 use Rattle.eight.specs.Packed.{Each, numberIn}
 use Rattle.eight.proofs.Packed.{lows-packed, each-low}
 use borrow.Author.Needs.{needs}

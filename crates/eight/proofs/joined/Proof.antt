@@ -1,7 +1,6 @@
-use mathlib.Core.Path.{_∙_}
 use Prim.Native.Nat.{_+_, _*_, _/_}
 use native.Mathlib.Omega.{arith}
-use lib.Bits.{bitAnd, and-le-r}
+use lib.Bits.{and-le-r}
 use Rattle.eight.proofs.Packed.{four-joined, last-joined}
 use borrow.Author.Needs.{needs}
 use Rattle.eight.proofs.joined.Statement.{statement}

@@ -1,5 +1,3 @@
-use mathlib.Core.List.{[], _∷_}
-use Rattle.eight.specs.Packed.{saidIn}
 use Rattle.eight.proofs.Packed.{each-said, apart-le}
 use borrow.Author.Needs.{needs}
 use Rattle.eight.proofs.word_said.Statement.{statement}

@@ -1,8 +1,8 @@
 use denote.Ref.{now}
-use mathlib.Core.Path.{_≡_, refl, sym, _∙_}
+use mathlib.Core.Path.{_≡_, sym, _∙_}
 use Prim.Native.Nat.{_+_, _-_, _*_, _≤_}
 use native.Mathlib.Omega.{arith}
-use lib.ListN.{length, take, drop}
+use lib.ListN.{take, drop}
 use Rattle.hex_load.specs.Sums.{none, sumFrom}
 use Rattle.hex_load.proofs.Sums.{pairs-start, pairs-end, pair-none, pair-turn}
 use borrow.Author.Needs.{needs}

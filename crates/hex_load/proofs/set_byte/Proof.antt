@@ -1,5 +1,4 @@
 use denote.Ref.{now}
-use native.Mathlib.Omega.{arith}
 use Rattle.hex_load.proofs.Words.{set-word}
 use borrow.Author.Needs.{needs}
 use Rattle.hex_load.proofs.set_byte.Statement.{statement}

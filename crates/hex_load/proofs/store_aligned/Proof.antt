@@ -1,6 +1,6 @@
 use denote.Ref.{now}
-use mathlib.Core.Path.{_≡_, _∙_}
-use Prim.Native.Nat.{_+_, _*_, _/_, _-_}
+use mathlib.Core.Path.{_∙_}
+use Prim.Native.Nat.{_*_, _/_, _-_}
 use native.Mathlib.Nat.{add-zero}
 use native.Mathlib.Omega.{arith}
 use Rattle.records.specs.Window.{windowBytes}

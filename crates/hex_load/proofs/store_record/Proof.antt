@@ -4,7 +4,7 @@ use Prim.Native.Nat.{ℕ, _+_, _*_, _≤_}
 use native.Mathlib.Omega.{arith}
 use lib.ListN.{length, take, drop}
 use Rattle.records.specs.Window.{windowBytes}
-use Rattle.records.specs.Load.{bytesIn, byteIn, kindIn, addressIn, run, stored}
+use Rattle.records.specs.Load.{bytesIn, byteIn, kindIn, addressIn, stored}
 use Rattle.records.proofs.Exactly.{byte-low}
 use Rattle.hex_load.proofs.Sums.{in-long, there}
 use Rattle.hex_load.proofs.Records.{head-parts, code-says, record-fits, content-digits, content-bytes}

@@ -9,7 +9,6 @@ use Rattle.records.specs.Window.{windowBytes}
 use Rattle.records.specs.Load.{bytesIn}
 use Rattle.hex_load.proofs.Sums.{all-part}
 use Rattle.hex_load.proofs.Stores.{singly-turn, singly-done}
-use borrow.Author.Needs.{needs}
 use Rattle.hex_load.proofs.store_singly.Statement.{statement}
 use Rattle.hex_load.proofs.store_singly.Tie as tie
 

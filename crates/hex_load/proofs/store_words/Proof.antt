@@ -9,7 +9,6 @@ use Rattle.records.specs.Window.{windowBytes}
 use Rattle.records.specs.Load.{bytesIn}
 use Rattle.hex_load.proofs.Sums.{all-part}
 use Rattle.hex_load.proofs.Stores.{words-turn, words-done}
-use borrow.Author.Needs.{needs}
 use Rattle.hex_load.proofs.store_words.Statement.{statement}
 use Rattle.hex_load.proofs.store_words.Tie as tie
 

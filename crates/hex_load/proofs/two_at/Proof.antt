@@ -2,7 +2,7 @@ use denote.Ref.{now}
 use mathlib.Core.Path.{sym, ap, _∙_}
 use Prim.Native.Nat.{_≤_}
 use native.Mathlib.Omega.{arith}
-use lib.ListN.{length, take, drop}
+use lib.ListN.{take, drop}
 use Rattle.eight.specs.Packed.{numberOr}
 use Rattle.hex_load.specs.Sums.{none}
 use Rattle.hex_load.proofs.Sums.{take-two, there, number-most, padded}

@@ -1,4 +1,3 @@
-use mathlib.Core.Path.{refl}
 use Rattle.machine.specs.Step.{answered}
 use Rattle.bank.specs.Bank.{stateIn}
 use borrow.Author.Needs.{needs}
@@ -7,7 +6,7 @@ use Rattle.step.proofs.answered.Tie as tie
 
 returns : tie.Need-returns
 unfolding stateIn answered
-returns c = (refl, λ mail pci addon. simp (c .line2 .ensures, c .before .line .ensures))
+returns c = (c .copied .ensures, λ mail pci addon. simp (c .before .line2 .ensures, c .before .before .line .ensures))
 
 pub answered-spec : {M : Type 1} → statement M
-answered-spec = tie.close (tie.spec (λ c κs. search needs) (λ c κs. search needs) returns)
+answered-spec = tie.close (tie.spec (λ c κs. search needs) (λ c κs. search needs) (λ c κs. search needs) returns)

@@ -7,8 +7,8 @@ use Rattle.step.proofs.settled.Tie as tie
 
 returns : tie.Need-returns
 returns c = λ mail pci addon memory.
-    let r = c .before .before .before .args .r in
-    none-stands (r .bank) mail pci addon memory (r .answer) (c .if1 .taken)
+    let r = c .before .before .before .before .before .args .r in
+    rw (c .copied .ensures) (none-stands (r .bank) mail pci addon memory (r .answer) (c .before .if1 .taken))
 
 returns-2 : tie.Need-returns-2
 unfolding settledOutcome
@@ -19,4 +19,4 @@ unfolding settledOutcome
 returns-3 c = λ mail pci addon memory. rw (c .before .if2 .left, c .settled .ensures mail pci addon)
 
 pub settled-spec : {M : Type 1} → statement M
-settled-spec = tie.close (tie.spec returns returns-2 (λ c κs. search needs) returns-3)
+settled-spec = tie.close (tie.spec (λ c κs. search needs) returns returns-2 (λ c κs. search needs) returns-3)
