@@ -13,18 +13,13 @@ pub const NONE: u64 = 0x1_0000_0000;
 // And where four bytes in 16 bits each are asked for.
 pub const NOT_DIGITS: u64 = 0xFFFF_FFFF_FFFF_FFFF;
 
-// Eight bytes, the first lowest.
+// Eight bytes, the first lowest: by halves, each of which the compiler reads at once.
 fn word_of(b0: u8, b1: u8, b2: u8, b3: u8, b4: u8, b5: u8, b6: u8, b7: u8) -> u64
     ensures { λ r. ⌜ r ≡ packed (b0 ∷ b1 ∷ b2 ∷ b3 ∷ b4 ∷ b5 ∷ b6 ∷ b7 ∷ []) ⌝ }
 {
-    b0 as u64
-        + b1 as u64 * 0x100
-        + b2 as u64 * 0x1_0000
-        + b3 as u64 * 0x100_0000
-        + b4 as u64 * 0x1_0000_0000
-        + b5 as u64 * 0x100_0000_0000
-        + b6 as u64 * 0x1_0000_0000_0000
-        + b7 as u64 * 0x100_0000_0000_0000
+    let low = b0 as u64 + b1 as u64 * 0x100 + b2 as u64 * 0x1_0000 + b3 as u64 * 0x100_0000;
+    let high = b4 as u64 + b5 as u64 * 0x100 + b6 as u64 * 0x1_0000 + b7 as u64 * 0x100_0000;
+    low + high * 0x1_0000_0000
 }
 
 // What each byte says if it is a digit: its low four bits, and 9 more for a letter.
