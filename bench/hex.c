@@ -7,7 +7,8 @@
  * bytes of the text, and the nanoseconds that a call took, the least of some
  * tries, by the archive and by the second program. Both answer alike, or it
  * ends with status 1. A text longer than an export has its data records
- * again and again, before one end. */
+ * again and again, before one end; load-N and load-N+K are of texts with
+ * records of N bytes, from address 0 or K on. */
 #define _POSIX_C_SOURCE 200809L
 #include "hexcall.h"
 #include "hexfile.h"
@@ -102,9 +103,46 @@ static size_t make_text(size_t count, size_t most)
     return used + END_RECORD;
 }
 
+static uint32_t byte_of_window(size_t at)
+{
+    return words[at / 4] >> 8 * (at % 4) & 0xFF;
+}
+
+/* Writes a data record of so many bytes of the window; answers its length. */
+static size_t put_record(uint8_t *out, size_t address, size_t size)
+{
+    char *to = (char *)out;
+    uint32_t sum = (uint32_t)(size + (address >> 8) + address);
+
+    to += sprintf(to, ":%02zX%04zX00", size, address);
+    for (size_t i = 0; i < size; i++) {
+        sum += byte_of_window(address + i);
+        to += sprintf(to, "%02X", byte_of_window(address + i));
+    }
+    to += sprintf(to, "%02X\n", -sum & 0xFF);
+    return (size_t)(to - (char *)out);
+}
+
+/* Makes the text: the window's bytes from an address on, in records of one
+ * size, and the end. */
+static size_t make_records(size_t size, size_t from)
+{
+    size_t used = 0;
+
+    for (size_t at = from; at + size <= sizeof words; at += size)
+        used += put_record(text + used, at, size);
+    memcpy(text + used, ":00000001FF\n", END_RECORD);
+    return used + END_RECORD;
+}
+
 int main(void)
 {
     static const size_t counts[] = { 256, 2048, HEX_WORDS_MOST };
+    static const struct { const char *name; size_t size, from; } records[] = {
+        { "load-1", 1, 0 }, { "load-4", 4, 0 }, { "load-8", 8, 0 },
+        { "load-20", 20, 0 }, { "load-32", 32, 0 }, { "load-255", 255, 0 },
+        { "load-16+1", 16, 1 }, { "load-16+2", 16, 2 }
+    };
 
     for (size_t i = 0; i < HEX_WORDS_MOST; i++)
         words[i] = (uint32_t)(i * 2654435761u);
@@ -120,5 +158,9 @@ int main(void)
     for (size_t most = 1 << 20; most <= TEXT_MOST; most *= 2)
         print_times("load-long", archive_load, second_load, HEX_WORDS_MOST,
                     make_text(HEX_WORDS_MOST, most), 0);
+    for (size_t i = 0; i < sizeof records / sizeof *records; i++)
+        print_times(records[i].name, archive_load, second_load,
+                    HEX_WORDS_MOST,
+                    make_records(records[i].size, records[i].from), 0);
     return 0;
 }

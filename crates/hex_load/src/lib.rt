@@ -114,7 +114,7 @@ fn pairs_sum(text: &[u8], from: usize, m: usize, sum: u64) -> u64
     let mut k = 0;
     while k < m {
         let q = two_at(text, from + 2 * k);
-        if q == NO_SUM {
+        if q == eight::NONE {
             return NO_SUM;
         }
         s += q;
