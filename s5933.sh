@@ -171,8 +171,20 @@ take_files() { # FILE...
     fi
 }
 
-# The program has no exit status of its own. It says in one digit on descriptor 3, a pipe without a name, how the run ended. If all
-# went well for the program, it may still have got less than it should: a feeder may have failed.
+# Whether a feeder had failed when the program ended before its input: the others end, or have ended, because nobody reads on.
+feeders_failed() {
+    local feeder
+    exec <&-
+    kill "${feeders[@]}" 2>/dev/null
+    for feeder in "${feeders[@]}"; do
+        wait "$feeder"
+        case $? in 0 | 141 | 143) ;; *) return 0 ;; esac
+    done 2>/dev/null
+    return 1
+}
+
+# The program has no exit status of its own. It says in one digit on descriptor 3, a pipe without a name, how the run ended. A feeder
+# may have failed: then the program got less than it should, and what went well for it, or had no set line, is a failed read.
 run() {
     local status digit feeder
     exec 3<> <(:)
@@ -184,7 +196,8 @@ run() {
     read -r digit <&3
     case $digit:$status in
         0:*) for feeder in "${feeders[@]}"; do wait "$feeder" || exit 1; done; exit 0 ;;
-        [1-4]:*) exit "$digit" ;;
+        3:*) ! feeders_failed || exit 1; exit 3 ;;
+        [124]:*) exit "$digit" ;;
         *:12[67]) exit 2 ;;
         *:141) exit 141 ;; # SIGPIPE: nobody reads the output any more
         *:129 | *:1[3-9][0-9]) die "$status" "signal $((status - 128)) ended the program" ;;

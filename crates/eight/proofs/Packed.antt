@@ -6,7 +6,7 @@ use mathlib.Core.List.{List, [], _∷_, map}
 use native.Mathlib.Omega.{arith}
 use native.Mathlib.Decide.{ℕ-discrete}
 use lib.Dec.{eqb, ltb}
-use lib.Bits.{bitAnd, bitOr, and-zero-l, and-zero-r, and-block, and-mask, and-high, or-zero-l, or-zero-r, or-block, or-lt}
+use lib.Bits.{bitAnd, bitOr, bitXor, and-le-l, and-le-r, and-zero-l, and-zero-r, and-block, and-mask, and-high, or-add-and, or-zero-l, or-zero-r, or-block, or-lt, xor-add-and, xor-self}
 use lib.ListN.{length, replicate, length-map}
 use borrow.Author.Tests.{ltb-true, eqb-true, eq-eqb, ne-eqb}
 use Rattle.hex.specs.Hex.{hexDigits, placeIn, digitNumber, allDigits, numberFrom}
@@ -156,8 +156,23 @@ each-map : (f : ℕ → ℕ) → ((b : ℕ) → b < 256 → f b < 256) → (bs :
 each-map f h [] e = tt
 each-map f h (b ∷ bs) e = (h b (e .0), each-map f h bs (e .1))
 
+-- two numbers are alike and a third is zero, in one test
+one-test : (t v h : ℕ) → eqb (bitOr (bitXor t v) h) 0 ≡ (eqb t v && eqb h 0)
+one-test t v h = by (ℕ-discrete t v) (ℕ-discrete h 0)
+  where
+    sums : bitOr (bitXor t v) h + bitAnd (bitXor t v) h ≡ bitXor t v + h
+    sums = or-add-and (bitXor t v) h
+
+    by : Dec (t ≡ v) → Dec (h ≡ 0) → eqb (bitOr (bitXor t v) h) 0 ≡ (eqb t v && eqb h 0)
+    by (yes p) (yes q) = rw (p, q, xor-self v, eq-eqb v v refl)
+    by (yes p) (no q) =
+        rw (eq-eqb t v p, ne-eqb h 0 q) (ne-eqb (bitOr (bitXor t v) h) 0 (λ e. q (omega (arith, sums, and-le-l (bitXor t v) h))))
+    by (no p) q =
+        rw (ne-eqb t v p)
+        (ne-eqb (bitOr (bitXor t v) h) 0 (λ e. p (omega (arith, sums, and-le-r (bitXor t v) h, xor-add-and t v, and-le-l t v, and-le-r t v))))
+
 pub digits-packed : (bs : List ℕ) (d : ℕ) → length bs ≡ 8 → Each 256 bs → d ≡ packed (numbersIn bs)
-    → (eqb (d + 0x3030_3030_3030_3030 + bitAnd (d + 0x0606_0606_0606_0606) 0x1010_1010_1010_1010 / 16 * 7) (packed bs) && eqb (bitAnd d 0xF0F0_F0F0_F0F0_F0F0) 0) ≡ allDigits bs
+    → eqb (bitOr (bitXor (d + 0x3030_3030_3030_3030 + bitAnd (d + 0x0606_0606_0606_0606) 0x1010_1010_1010_1010 / 16 * 7) (packed bs)) (bitAnd d 0xF0F0_F0F0_F0F0_F0F0)) 0 ≡ allDigits bs
 digits-packed bs d n e q =
     let says : d ≡ packed (map numberIn bs) = q ∙ sym (packed-numbers bs) in
     let six : packed (map (λ b. 6) bs) ≡ 0x0606_0606_0606_0606 = rw n at (packed-const 6 bs) in
@@ -172,7 +187,7 @@ digits-packed bs d n e q =
     let long : length (map numberIn bs) ≡ 8 = length-map bs numberIn ∙ n in
     let high : bitAnd d 0xF0F0_F0F0_F0F0_F0F0 ≡ packed (map highIn bs) =
     rw says (rw (long, map-map (λ b. b / 16 % 16 * 16) numberIn bs) at (high-four (map numberIn bs) (each-map numberIn (λ b h. omega arith) bs e))) in
-    rw (text, high) (checks bs e)
+    rw (text, high) (one-test (packed (map textIn bs)) (packed bs) (packed (map highIn bs)) ∙ checks bs e)
 
 -- ---- the numbers of digits joined
 

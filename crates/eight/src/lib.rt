@@ -29,14 +29,15 @@ fn numbers_in(v: u64) -> u64
     (v & 0x0F0F_0F0F_0F0F_0F0F) + (v & 0x4040_4040_4040_4040) / 64 * 9
 }
 
-// Whether eight bytes are digits, with what they say if they are: they are the digits of that, and it is eight numbers below 16.
+// Whether eight bytes are digits, with what they say if they are: they are the digits of that, and it is eight numbers below 16. Both
+// are one test, so one branch.
 fn are_digits(v: u64, d: u64) -> bool
     requires { ⌜ d ≤ 0x1818_1818_1818_1818 ⌝ }
     ensures { λ r. ⌜ ((bs : List ℕ) → length bs ≡ 8 → Each 256 bs → v ≡ packed bs → d ≡ packed (numbersIn bs) → r ≡ allDigits bs) ⌝ }
 {
     let letters = ((d + 0x0606_0606_0606_0606) & 0x1010_1010_1010_1010) / 16;
     let text = d + 0x3030_3030_3030_3030 + letters * 7;
-    (text == v) & ((d & 0xF0F0_F0F0_F0F0_F0F0) == 0)
+    ((text ^ v) | (d & 0xF0F0_F0F0_F0F0_F0F0)) == 0
 }
 
 // Eight numbers below 16 as four bytes, each in 16 bits, the first lowest.

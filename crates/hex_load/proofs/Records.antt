@@ -26,7 +26,7 @@ use Rattle.records.proofs.Bytes.{total-append}
 use Rattle.records.proofs.Read.{bytes-one}
 use Rattle.records.proofs.Exactly.{in-take, in-length, byte-low}
 use Rattle.hex_load.specs.Sums.{none, sumFrom, recordSum, headIn, partsSum, FourBytes}
-use Rattle.hex_load.proofs.Sums.{take-split, take-eight, all-part, in-append, there, said-bytes, quad-some, four-parts, four-bytes}
+use Rattle.hex_load.proofs.Sums.{take-eight, all-part, in-append, there, said-bytes, quad-some, four-parts, four-bytes, head-tail, digits-parts}
 use Rattle.hex_load.proofs.Texts.{bytes-here}
 use Rattle.records.specs.Load.{bytesIn, byteIn, bytesAt, digitsIn, totalIn, kindIn, countIn, offsetIn, addressIn, restOf, contentIn, isKind, isRecord, allInside, recordCode}
 
@@ -73,17 +73,8 @@ module _ (text : List ℕ) (at n : ℕ) (count : n ≡ byteIn (drop at text) 0) 
   abbrev tail : List ℕ
   tail = take (2 * (n + 1)) (drop (at + 9) text)
 
-  parts : take (2 * (n + 5)) (drop (at + 1) text) ≡ head ++ tail
-  parts =
-      let e : 2 * (n + 5) ≡ 8 + 2 * (n + 1) = omega arith in
-      let f : at + 1 + 8 ≡ at + 9 = omega arith in
-      rw e (take-split 8 (2 * (n + 1)) (at + 1) text ∙ rw f)
-
-  digits-parts : allDigits (take (2 * n + 10) (drop (at + 1) text)) ≡ (allDigits head && allDigits tail)
-  digits-parts = let e : 2 * n + 10 ≡ 2 * (n + 5) = omega arith in rw (e, parts) (all-append head tail)
-
   pub head-not : allDigits head ≡ false → isRecord (drop at text) ≡ false
-  head-not e = by-place ∙ rw (digits-parts, e) (second-not (ltb (2 * n + 10 + 1) (length (drop at text)) && eqb (getD text at 0) 58))
+  head-not e = by-place ∙ rw (digits-parts text at n, e) (second-not (ltb (2 * n + 10 + 1) (length (drop at text)) && eqb (getD text at 0) 58))
     where
       second-not : (a : Bool) → (a && false) ≡ false
       second-not false = refl
@@ -93,14 +84,15 @@ module _ (text : List ℕ) (at n : ℕ) (count : n ≡ byteIn (drop at text) 0) 
     total-parts : totalIn (drop at text) ≡ total (bytesIn head) + total (bytesIn tail)
     unfolding totalIn byteIn
     total-parts =
+        let whole : take (2 * (n + 5)) (drop (at + 1) text) ≡ head ++ tail = let e : 2 * (n + 5) ≡ 2 * n + 10 = omega arith in rw e (head-tail text at n) in
         let few : n + 5 ≤ length (bytesIn (drop 1 (drop at text))) = in-length (n + 5) (drop 1 (drop at text)) (rw (drop-drop 1 at text, length-drop) (omega arith)) in
         let bytes = bytes-one (drop at text) (bytesIn (drop 1 (drop at text))) (λ k. refl) (n + 5) 0 (omega arith) ∙ sym (in-take (n + 5) (drop 1 (drop at text))) in
-        rw (← count, bytes, drop-drop 1 at text, parts, in-append 4 head tail (there 8 (at + 1) text (omega arith))) (total-append (bytesIn head) (bytesIn tail))
+        rw (← count, bytes, drop-drop 1 at text, whole, in-append 4 head tail (there 8 (at + 1) text (omega arith))) (total-append (bytesIn head) (bytesIn tail))
 
     pub record-sum : framed ≡ true → isKind (kindIn (drop at text)) n (offsetIn (drop at text)) ≡ true → allDigits head ≡ true
         → recordSum (drop at text) ≡ sumFrom (total (bytesIn head)) tail
     unfolding recordSum sumFrom
-    record-sum f k h = rw (by-place, k, digits-parts, h, total-parts) (all-in (ltb (2 * n + 10 + 1) (length (drop at text))) (eqb (getD text at 0) 58) (allDigits tail) (eqb (getD text (at + (2 * n + 10 + 1)) 0) 10) _ f)
+    record-sum f k h = rw (by-place, k, digits-parts text at n, h, total-parts) (all-in (ltb (2 * n + 10 + 1) (length (drop at text))) (eqb (getD text at 0) 58) (allDigits tail) (eqb (getD text (at + (2 * n + 10 + 1)) 0) 10) _ f)
       where
         all-in : (a b c d : Bool) (x : ℕ) → (a && (b && d)) ≡ true → cond ((a && b) && ((c && d) && true)) x none ≡ cond c x none
         all-in true true c true x z = both-true c

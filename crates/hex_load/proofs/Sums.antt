@@ -1,24 +1,24 @@
 -- Laws of digits read many at once.
 --     take-two, take-eight, take-split, all-part     the digits at a place, one by one and in parts
 --     joined-none, joined-some                       a sum over digits joined
---     number-some, number-none, padded, pair-sum     what a number of two digits says of them
 --     said-bytes, quad-none, quad-some               what is read of eight digits: the bytes that they stand for
 --     Parts, parts-of, parts-add, parts-total        four sums in one number
---     quad-turn, pair-turn, rest-some                a turn of a loop; what quads leave
+--     quad-turn                                      a turn of the loop over quads
+--     ending-none, ending-bytes, ending-sum          a record's last bytes, read with digits ahead of them
 use Prim.Native.Nat.{ℕ, zero, suc, _+_, _-_, _*_, _/_, _%_, _^_, _<_, _≤_}
 use mathlib.Core.Path.{_≡_, refl, sym, ap, _∙_}
-use mathlib.Core.Bool.{Bool, true, false, cond, _&&_}
+use mathlib.Core.Bool.{Bool, true, false, true≢false, cond, _&&_}
 use mathlib.Core.List.{List, [], _∷_, _++_}
-use native.Mathlib.Nat.{add-zero, add-assoc, sub-zero, le-refl}
+use native.Mathlib.Nat.{add-zero, add-assoc, sub-zero, div-one}
 use native.Mathlib.Omega.{arith}
 use lib.ListN.{length, getD, take, drop, length-drop}
+use lib.Pow.{shr-shr}
 use lib.Seq.{drop-cons, drop-drop, length-take-le}
 use lib.Dec.{ltb, lit<}
-use borrow.Author.Tests.{ltb-true}
 use Rattle.laws.proofs.Below.{both}
-use Rattle.hex.specs.Hex.{hexDigits, placeIn, digitNumber, allDigits, numberFrom, number, digitOf, digits}
-use Rattle.hex.proofs.Numbers.{all-append, number-lt, digits-number}
-use Rattle.eight.specs.Packed.{packed, apart, Each, numberIn, saidIn, numberOr, bytesOr}
+use Rattle.hex.specs.Hex.{digitNumber, allDigits, number, digitOf, digits}
+use Rattle.hex.proofs.Numbers.{all-append, digits-number}
+use Rattle.eight.specs.Packed.{packed, apart, Each, numberIn, saidIn, bytesOr}
 use Rattle.eight.proofs.Packed.{lane-number, each-said, bytes-some, bytes-none}
 use Rattle.eight.proofs.Written.{digit-small}
 use Rattle.records.specs.Window.{windowBytes}
@@ -77,6 +77,16 @@ module _ (sum m : ℕ) (xs ys : List ℕ) (even : length xs ≡ 2 * m) where
   unfolding sumFrom
   joined-some e = rw (all-append xs ys, e, in-append m xs ys even, total-append (bytesIn xs) (bytesIn ys), add-assoc)
 
+  pub joined-last : allDigits ys ≡ true → sumFrom sum (xs ++ ys) ≡ sumFrom (sum + total (bytesIn ys)) xs
+  unfolding sumFrom
+  joined-last e =
+      let both : sum + (total (bytesIn xs) + total (bytesIn ys)) ≡ sum + total (bytesIn ys) + total (bytesIn xs) = omega arith in
+      rw (all-append xs ys, e, in-append m xs ys even, total-append (bytesIn xs) (bytesIn ys), both) (by (allDigits xs))
+    where
+      by : (t : Bool) → cond (t && true) (sum + total (bytesIn ys) + total (bytesIn xs)) none ≡ cond t (sum + total (bytesIn ys) + total (bytesIn xs)) none
+      by true = refl
+      by false = refl
+
 pub summed : (sum : ℕ) (xs : List ℕ) → allDigits xs ≡ true → sumFrom sum xs ≡ sum + total (bytesIn xs)
 unfolding sumFrom
 summed sum xs e = rw e
@@ -89,69 +99,11 @@ pub sum-done : (sum : ℕ) → sumFrom sum [] ≡ sum
 unfolding sumFrom allDigits bytesIn total
 sum-done sum = omega arith
 
-below-total : (xs : List ℕ) → Each 256 xs → total xs ≤ 255 * length xs
-unfolding total
-below-total [] h = omega arith
-below-total (x ∷ xs) h = let k = below-total xs (h .1) in let l = h .0 in omega arith
-
-in-short : (s : List ℕ) → length (bytesIn s) ≤ length s
-unfolding bytesIn
-in-short [] = omega arith
-in-short (a ∷ []) = omega arith
-in-short (a ∷ b ∷ s) = omega (arith, in-short s)
-
 pub in-long : (m : ℕ) (s : List ℕ) → length s ≡ 2 * m → length (bytesIn s) ≡ m
 unfolding bytesIn
 in-long m [] h = omega arith
 in-long m (a ∷ []) h = absurd (omega arith)
 in-long m (a ∷ b ∷ s) h = let k = in-long (m - 1) s (omega arith) in omega arith
-
-pub total-small : (s : List ℕ) → total (bytesIn s) ≤ 255 * length s
-total-small s = omega (arith, below-total (bytesIn s) (in-below s), in-short s)
-
--- ---- numbers of digits
-
--- digits that make a number are digits, and it is below 16 ^ 8
-pub number-some : (s : List ℕ) (q : ℕ) → q ≡ numberOr s → (q ≡ none → ⊥) → (allDigits s ≡ true) × (q ≡ number s)
-unfolding numberOr
-number-some s q e h = by (allDigits s) refl
-  where
-    by : (t : Bool) → allDigits s ≡ t → (allDigits s ≡ true) × (q ≡ number s)
-    by true a = (a, e ∙ rw a)
-    by false a = absurd (h (e ∙ rw a))
-
-pub number-none : (s : List ℕ) (q : ℕ) → 16 ^ length s ≤ none → q ≡ numberOr s → q ≡ none → allDigits s ≡ false
-unfolding numberOr
-number-none s q few e h = by (allDigits s) refl
-  where
-    by : (t : Bool) → allDigits s ≡ t → allDigits s ≡ false
-    by true a = let n : q ≡ number s = e ∙ rw a in absurd (omega (arith, number-lt s a))
-    by false a = a
-
-pub number-most : (s : List ℕ) → 16 ^ length s ≤ none → numberOr s ≤ none
-unfolding numberOr
-number-most s few = by (allDigits s) refl
-  where
-    by : (t : Bool) → allDigits s ≡ t → cond (allDigits s) (number s) none ≤ none
-    by true a = rw a (omega (arith, number-lt s a))
-    by false a = rw a (le-refl none)
-
--- zeros before two digits
-pub padded : (a b : ℕ) → numberOr (48 ∷ 48 ∷ 48 ∷ 48 ∷ 48 ∷ 48 ∷ a ∷ b ∷ []) ≡ numberOr (a ∷ b ∷ [])
-unfolding numberOr allDigits numberFrom digitNumber placeIn hexDigits
-padded a b = refl
-
-digit-low : (b : ℕ) (t : Bool) → (ltb (digitNumber b) 16 && t) ≡ true → (digitNumber b < 16) × (t ≡ true)
-digit-low b t e = let p = both (ltb (digitNumber b) 16) t e in (ltb-true (digitNumber b) 16 (p .0), p .1)
-
-pub pair-total : (a b : ℕ) → allDigits (a ∷ b ∷ []) ≡ true → total (bytesIn (a ∷ b ∷ [])) ≡ number (a ∷ b ∷ [])
-unfolding allDigits bytesIn total numberFrom
-pair-total a b e =
-    let p = digit-low a _ e in
-    let q = digit-low b _ (p .1) in
-    let h = p .0 in
-    let k = q .0 in
-    omega arith
 
 pub take-eight : (s : List ℕ) (i : ℕ) → i + 8 ≤ length s
     → take 8 (drop i s) ≡ getD s i 0 ∷ getD s (i + 1) 0 ∷ getD s (i + 2) 0 ∷ getD s (i + 3) 0 ∷ getD s (i + 4) 0 ∷ getD s (i + 5) 0 ∷ getD s (i + 6) 0 ∷ getD s (i + 7) 0 ∷ []
@@ -178,10 +130,6 @@ take-eight s i h =
       seven,
       take-more 0 s (i + 7) (omega arith),
     )
-
--- the total of two digits at a place, by their number
-pub pair-sum : (s : List ℕ) (i : ℕ) → i + 2 ≤ length s → allDigits (take 2 (drop i s)) ≡ true → total (bytesIn (take 2 (drop i s))) ≡ number (take 2 (drop i s))
-pair-sum s i h all = rw (take-two s i h) (pair-total _ _ (rw (take-two s i h) at all))
 
 -- ---- eight digits
 
@@ -294,9 +242,6 @@ parts-of x f = record {
   low-d = omega (arith, f .3);
 }
 
-pub parts-low : (x : ℕ) → FourBytes x → partsSum x ≤ 4096
-parts-low x f = omega (arith, f .0, f .1, f .2, f .3)
-
 pub four-zero : FourBytes 0
 four-zero = (omega arith, omega arith, omega arith, omega arith)
 
@@ -347,14 +292,8 @@ module _ (sum from m : ℕ) (text : List ℕ) where
   pub quads-start : sumFrom sum (take (8 * m) (drop from text)) ≡ sumFrom sum (take (8 * (m - 0)) (drop (from + 8 * 0) text))
   quads-start = rw (sub-zero, add-zero)
 
-  pub pairs-start : sumFrom sum (take (2 * m) (drop from text)) ≡ sumFrom sum (take (2 * (m - 0)) (drop (from + 2 * 0) text))
-  pairs-start = rw (sub-zero, add-zero)
-
   pub quads-end : (k : ℕ) → m ≤ k → sumFrom sum (take (8 * (m - k)) (drop (from + 8 * k) text)) ≡ sum
   quads-end k h = let e : 8 * (m - k) ≡ 0 = omega arith in rw e (sum-done sum)
-
-  pub pairs-end : (k : ℕ) → m ≤ k → sumFrom sum (take (2 * (m - k)) (drop (from + 2 * k) text)) ≡ sum
-  pairs-end k h = let e : 2 * (m - k) ≡ 0 = omega arith in rw e (sum-done sum)
 
 pub there : (n i : ℕ) (s : List ℕ) → i + n ≤ length s → length (take n (drop i s)) ≡ n
 there n i s h = length-take-le n (drop i s) (rw length-drop (omega arith))
@@ -396,65 +335,100 @@ module _ (text : List ℕ) (from m k sum q : ℕ) (more : k < m) where
         let p = quad-some text (from + 8 * k) q (omega arith) is e in
         rw (quads, four-parts text (from + 8 * k) q (omega arith) (p .1) .1) (joined-some sum 4 eight _ long (p .0))
 
-  module _ (fits : from + 2 * m ≤ length text) (is : q ≡ numberOr (take 2 (drop (from + 2 * k) text))) where
-    abbrev two : List ℕ
-    two = take 2 (drop (from + 2 * k) text)
+-- ---- the last bytes of a record
 
-    pairs : take (2 * (m - k)) (drop (from + 2 * k) text) ≡ two ++ take (2 * (m - (k + 1))) (drop (from + 2 * (k + 1)) text)
-    pairs =
-        let e : 2 * (m - k) ≡ 2 + 2 * (m - (k + 1)) = omega arith in
-        let f : from + 2 * k + 2 ≡ from + 2 * (k + 1) = omega arith in
-        rw e (take-split 2 (2 * (m - (k + 1))) (from + 2 * k) text ∙ rw f)
+-- numbers in 16 bits each, without the first of them
+past : (xs ys : List ℕ) → Each 256 xs → apart (xs ++ ys) / 2 ^ (16 * length xs) ≡ apart ys
+past [] ys e = div-one (apart ys)
+past (x ∷ xs) ys e =
+    let more : 16 * length (x ∷ xs) ≡ 16 + 16 * length xs = omega arith in
+    let one : (apart (xs ++ ys) * 65536 + x) / 2 ^ 16 ≡ apart (xs ++ ys) = omega (arith, e .0) in
+    rw more (sym (shr-shr (apart (xs ++ ys) * 65536 + x) 16 (16 * length xs)) ∙ rw one (past xs ys (e .1)))
 
-    short : length two ≡ 2
-    short = there 2 (from + 2 * k) text (omega arith)
+four : (a b c d : ℕ) → Each 256 (a ∷ b ∷ c ∷ d ∷ []) → FourBytes (apart (a ∷ b ∷ c ∷ d ∷ [])) × (partsSum (apart (a ∷ b ∷ c ∷ d ∷ [])) ≡ a + b + c + d)
+four a b c d e = (four-bytes a b c d e, parts-total _ 255 (lit< tt) (parts-bytes a b c d e))
 
-    pub pair-none : q ≡ none → sumFrom sum (take (2 * (m - k)) (drop (from + 2 * k) text)) ≡ none
-    pair-none e = rw pairs (joined-none sum 1 two _ short (number-none two q (rw short (omega arith)) is e))
+at-most-four : (ys : List ℕ) → Each 256 ys → length ys ≤ 4 → FourBytes (apart ys) × (partsSum (apart ys) ≡ total ys)
+unfolding total
+at-most-four [] e h = let f = four 0 0 0 0 (omega arith, (omega arith, (omega arith, (omega arith, tt)))) in (f .0, omega arith)
+at-most-four (a ∷ []) e h = let f = four a 0 0 0 (e .0, (omega arith, (omega arith, (omega arith, tt)))) in (f .0, f .1 ∙ omega arith)
+at-most-four (a ∷ b ∷ []) e h = let f = four a b 0 0 (e .0, (e .1 .0, (omega arith, (omega arith, tt)))) in (f .0, f .1 ∙ omega arith)
+at-most-four (a ∷ b ∷ c ∷ []) e h = let f = four a b c 0 (e .0, (e .1 .0, (e .1 .1 .0, (omega arith, tt)))) in (f .0, f .1 ∙ omega arith)
+at-most-four (a ∷ b ∷ c ∷ d ∷ []) e h = let f = four a b c d e in (f .0, f .1 ∙ omega arith)
+at-most-four (a ∷ b ∷ c ∷ d ∷ f ∷ ys) e h = absurd (omega arith)
 
-    pub pair-turn : (q ≡ none → ⊥) → sumFrom sum (take (2 * (m - k)) (drop (from + 2 * k) text)) ≡ sumFrom (sum + q) (take (2 * (m - (k + 1))) (drop (from + 2 * (k + 1)) text))
-    pair-turn e =
-        let p = number-some two q is e in
-        rw (pairs, p .1, ← pair-sum text (from + 2 * k) (omega arith) (p .0)) (joined-some sum 1 two _ short (p .0))
+-- the record at a place, of n bytes
+module _ (text : List ℕ) (at n : ℕ) where
+  abbrev head : List ℕ
+  head = take 8 (drop (at + 1) text)
 
--- ---- a sum and what it says of its digits
+  -- the digits behind its first eight
+  abbrev tail : List ℕ
+  tail = take (2 * (n + 1)) (drop (at + 9) text)
 
-module _ (sum r : ℕ) (xs : List ℕ) (low : sum ≤ 4096) (few : length xs ≤ 1024) (is : r ≡ sumFrom sum xs) where
-  pub sum-none : r ≡ none → allDigits xs ≡ false
-  sum-none z = by (allDigits xs) refl
+  pub head-tail : take (2 * n + 10) (drop (at + 1) text) ≡ head ++ tail
+  head-tail =
+      let e : 2 * n + 10 ≡ 8 + 2 * (n + 1) = omega arith in
+      let f : at + 1 + 8 ≡ at + 9 = omega arith in
+      rw e (take-split 8 (2 * (n + 1)) (at + 1) text ∙ rw f)
+
+  pub digits-parts : allDigits (take (2 * n + 10) (drop (at + 1) text)) ≡ (allDigits head && allDigits tail)
+  digits-parts = rw head-tail (all-append head tail)
+
+  -- the eight digits that end with its last
+  abbrev ending : List ℕ
+  ending = take 8 (drop (at + 3 + 2 * n) text)
+
+  pub ending-none : allDigits head ≡ true → allDigits ending ≡ false → allDigits tail ≡ false
+  ending-none h e = by (allDigits tail) refl
     where
-      value : allDigits xs ≡ true → r ≡ sum + total (bytesIn xs)
-      value a = is ∙ summed sum xs a
+      place : at + 1 + (2 * n + 2) ≡ at + 3 + 2 * n
+      place = omega arith
 
-      by : (t : Bool) → allDigits xs ≡ t → allDigits xs ≡ false
-      by true a = absurd (omega (arith, value a, total-small xs))
+      by : (t : Bool) → allDigits tail ≡ t → allDigits tail ≡ false
       by false a = a
+      by true a = absurd (true≢false (sym (rw place at (all-part (2 * n + 2) 8 (2 * n + 10) (at + 1) text (omega arith) (digits-parts ∙ rw (h, a)))) ∙ e))
 
-  pub sum-some : (r ≡ none → ⊥) → (allDigits xs ≡ true) × (r ≡ sum + total (bytesIn xs))
-  sum-some z = by (allDigits xs) refl
-    where
-      by : (t : Bool) → allDigits xs ≡ t → (allDigits xs ≡ true) × (r ≡ sum + total (bytesIn xs))
-      by true a = (a, is ∙ summed sum xs a)
-      by false a = absurd (z (is ∙ not-summed sum xs a))
+  -- what is not read by quads: its last bytes, one to four
+  abbrev quads-read : List ℕ
+  quads-read = take (8 * (n / 4)) (drop (at + 9) text)
 
--- quads, and what is left of them
-module _ (sum from n r : ℕ) (text : List ℕ) (fits : from + 2 * n ≤ length text) (low : sum ≤ 4096) (few : n ≤ 256) (is : r ≡ sumFrom sum (take (8 * (n / 4)) (drop from text))) where
-  abbrev whole : List ℕ
-  whole = take (8 * (n / 4)) (drop from text)
+  abbrev last : List ℕ
+  last = take (2 * (n % 4 + 1)) (drop (at + 9 + 8 * (n / 4)) text)
 
-  split : take (2 * n) (drop from text) ≡ whole ++ take (2 * (n % 4)) (drop (from + 8 * (n / 4)) text)
-  split = let e : 2 * n ≡ 8 * (n / 4) + 2 * (n % 4) = omega arith in rw e (take-split (8 * (n / 4)) (2 * (n % 4)) from text)
+  tail-is : tail ≡ quads-read ++ last
+  tail-is = let e : 2 * (n + 1) ≡ 8 * (n / 4) + 2 * (n % 4 + 1) = omega arith in rw e (take-split (8 * (n / 4)) (2 * (n % 4 + 1)) (at + 9) text)
 
-  length-whole : length whole ≡ 8 * (n / 4)
-  length-whole = there (8 * (n / 4)) from text (omega arith)
+  abbrev ahead : List ℕ
+  ahead = take (6 - 2 * (n % 4)) (drop (at + 3 + 2 * n) text)
 
-  even : length whole ≡ 2 * (4 * (n / 4))
-  even = length-whole ∙ omega arith
+  ending-is : ending ≡ ahead ++ last
+  ending-is =
+      let e : 8 ≡ 6 - 2 * (n % 4) + 2 * (n % 4 + 1) = omega arith in
+      let f : at + 3 + 2 * n + (6 - 2 * (n % 4)) ≡ at + 9 + 8 * (n / 4) = omega arith in
+      ap (λ (m : ℕ). take m (drop (at + 3 + 2 * n) text)) e ∙ take-split (6 - 2 * (n % 4)) (2 * (n % 4 + 1)) (at + 3 + 2 * n) text ∙ rw f
 
-  pub rest-none : r ≡ none → sumFrom sum (take (2 * n) (drop from text)) ≡ none
-  rest-none z = rw split (joined-none sum (4 * (n / 4)) whole _ even (sum-none sum r whole low (omega (arith, length-whole)) is z))
+  module _ (fits : at + (2 * n + 12) ≤ length text) (all : allDigits ending ≡ true) (q : ℕ) (is : q ≡ apart (bytesIn ending)) where
+    long-ahead : length ahead ≡ 2 * (3 - n % 4)
+    long-ahead = there (6 - 2 * (n % 4)) (at + 3 + 2 * n) text (omega arith) ∙ omega arith
 
-  pub rest-some : (r ≡ none → ⊥) → sumFrom sum (take (2 * n) (drop from text)) ≡ sumFrom r (take (2 * (n % 4)) (drop (from + 8 * (n / 4)) text))
-  rest-some z =
-      let p = sum-some sum r whole low (omega (arith, length-whole)) is z in
-      rw (split, p .1) (joined-some sum (4 * (n / 4)) whole _ even (p .0))
+    long-last : length last ≡ 2 * (n % 4 + 1)
+    long-last = there (2 * (n % 4 + 1)) (at + 9 + 8 * (n / 4)) text (omega arith)
+
+    last-alone : q / 2 ^ (48 - 16 * (n % 4)) ≡ apart (bytesIn last)
+    last-alone =
+        let parts : q ≡ apart (bytesIn ahead ++ bytesIn last) = is ∙ ap (λ (l : List ℕ). apart (bytesIn l)) ending-is ∙ ap apart (in-append (3 - n % 4) ahead last long-ahead) in
+        let bits : 48 - 16 * (n % 4) ≡ 16 * length (bytesIn ahead) = omega (arith, in-long (3 - n % 4) ahead long-ahead) in
+        rw (parts, bits) (past (bytesIn ahead) (bytesIn last) (in-below ahead))
+
+    few : FourBytes (apart (bytesIn last)) × (partsSum (apart (bytesIn last)) ≡ total (bytesIn last))
+    few = at-most-four (bytesIn last) (in-below last) (omega (arith, in-long (n % 4 + 1) last long-last))
+
+    pub ending-bytes : FourBytes (q / 2 ^ (48 - 16 * (n % 4)))
+    ending-bytes = rw last-alone (few .0)
+
+    pub ending-sum : (sum : ℕ) → sumFrom (sum + partsSum (q / 2 ^ (48 - 16 * (n % 4)))) quads-read ≡ sumFrom sum tail
+    ending-sum sum =
+        let digits : allDigits last ≡ true = both (allDigits ahead) (allDigits last) (sym (all-append ahead last) ∙ ap allDigits (sym ending-is) ∙ all) .1 in
+        let even : length quads-read ≡ 2 * (4 * (n / 4)) = there (8 * (n / 4)) (at + 9) text (omega arith) ∙ omega arith in
+        rw (last-alone, few .1, tail-is) (sym (joined-last sum (4 * (n / 4)) quads-read last even digits))

@@ -8,7 +8,7 @@ ghost use lib.ListN.{length, getD, take, drop, set};
 ghost use lib.Seq.{sets};
 ghost use lib.Dec.{eqb, ltb};
 ghost use Rattle.hex.specs.Hex.{allDigits};
-ghost use Rattle.eight.specs.Packed.{numberOr, bytesOr};
+ghost use Rattle.eight.specs.Packed.{bytesOr};
 ghost use Rattle.records.specs.Window.{windowBytes, bytePlace};
 ghost use Rattle.records.specs.Load.{bytesIn, byteIn, isKind, isRecord, upperAfter, allInside, recordCode, codeFrom, saidBy, said, stored, loadOf};
 ghost use Rattle.hex_load.specs.Sums.{sumFrom, recordSum, headIn, partsSum, FourBytes};
@@ -72,14 +72,6 @@ fn bytes_at(text: &[u8], i: usize) -> u64
     )
 }
 
-// The number of the two digits at a place, 2^32 if a byte there is none.
-fn two_at(text: &[u8], i: usize) -> u64
-    requires { ⌜ i + 2 ≤ length (now text) ⌝ }
-    ensures { λ r. ⌜ (r ≡ numberOr (take 2 (drop i (now (text .entry))))) × (r ≤ 4294967296) ⌝ }
-{
-    eight::number(b'0', b'0', b'0', b'0', b'0', b'0', text[i], text[i + 1])
-}
-
 // The sum of the four numbers that stand in 16 bits each.
 fn parts_sum(x: u64) -> u64
     ensures { λ r. ⌜ r ≡ partsSum x ⌝ }
@@ -87,12 +79,12 @@ fn parts_sum(x: u64) -> u64
     x % 0x1_0000 + x / 0x1_0000 % 0x1_0000 + x / 0x1_0000_0000 % 0x1_0000 + x / 0x1_0000_0000_0000
 }
 
-// The sum of four bytes, and of those that 8 m digits stand for; none if one is no digit. Each 16 bits are summed apart.
-fn quads_sum(text: &[u8], from: usize, m: usize, head: u64) -> u64
-    requires { ⌜ (from + 8 * m ≤ length (now text)) × (m ≤ 64) × FourBytes head ⌝ }
-    ensures { λ r. ⌜ (r ≡ sumFrom (partsSum head) (take (8 * m) (drop from (now (text .entry))))) × (r ≤ 4294967296) ⌝ }
+// The sum of eight bytes, and of those that 8 m digits stand for; none if one is no digit. Each 16 bits are summed apart.
+fn quads_sum(text: &[u8], from: usize, m: usize, head: u64, last: u64) -> u64
+    requires { ⌜ (from + 8 * m ≤ length (now text)) × (m ≤ 64) × FourBytes head × FourBytes last ⌝ }
+    ensures { λ r. ⌜ r ≡ sumFrom (partsSum head + partsSum last) (take (8 * m) (drop from (now (text .entry)))) ⌝ }
 {
-    let mut parts = head;
+    let mut parts = head + last;
     let mut k = 0;
     while k < m {
         let q = bytes_at(text, from + 8 * k);
@@ -105,34 +97,18 @@ fn quads_sum(text: &[u8], from: usize, m: usize, head: u64) -> u64
     parts_sum(parts)
 }
 
-// A sum, and the bytes of 2 m digits.
-fn pairs_sum(text: &[u8], from: usize, m: usize, sum: u64) -> u64
-    requires { ⌜ (from + 2 * m ≤ length (now text)) × (m < 4) × (sum ≤ 4294967296) ⌝ }
-    ensures { λ r. ⌜ r ≡ sumFrom sum (take (2 * m) (drop from (now (text .entry)))) ⌝ }
+// The sum of a record's first four bytes, and of those behind them, one more than its count; none if one is no digit. The last of
+// them, one to four, are those of eight digits that begin further ahead, among digits.
+fn bytes_sum(text: &[u8], at: usize, count: usize, head: u64) -> u64
+    requires { ⌜ (at + (2 * count + 12) ≤ length (now text)) × (count < 256) × FourBytes head × (allDigits (take 8 (drop (at + 1) (now text))) ≡ true) ⌝ }
+    ensures { λ r. ⌜ r ≡ sumFrom (partsSum head) (take (2 * (count + 1)) (drop (at + 9) (now (text .entry)))) ⌝ }
 {
-    let mut s = sum;
-    let mut k = 0;
-    while k < m {
-        let q = two_at(text, from + 2 * k);
-        if q == eight::NONE {
-            return NO_SUM;
-        }
-        s += q;
-        k += 1;
-    }
-    s
-}
-
-// The sum of four bytes, and of n that the digits from a place on stand for; none if one is no digit.
-fn bytes_sum(text: &[u8], from: usize, n: usize, head: u64) -> u64
-    requires { ⌜ (from + 2 * n ≤ length (now text)) × (n ≤ 256) × FourBytes head ⌝ }
-    ensures { λ r. ⌜ r ≡ sumFrom (partsSum head) (take (2 * n) (drop from (now (text .entry)))) ⌝ }
-{
-    let first = quads_sum(text, from, n / 4, head);
-    if first == NO_SUM {
+    let four = bytes_at(text, at + 3 + 2 * count);
+    if four == eight::NOT_DIGITS {
         return NO_SUM;
     }
-    pairs_sum(text, from + 8 * (n / 4), n % 4, first)
+    let ahead = 48 - 16 * (count % 4) as u32;
+    quads_sum(text, at + 9, count / 4, head, four >> ahead)
 }
 
 // ---- the record at a place, by its first four bytes
@@ -218,7 +194,7 @@ fn record_at(text: &[u8], at: usize) -> Found
         return none;
     }
     Found {
-        sum: bytes_sum(text, at + 9, count as usize + 1, head),
+        sum: bytes_sum(text, at, count as usize, head),
         head: head,
     }
 }

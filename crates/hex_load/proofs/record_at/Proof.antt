@@ -75,7 +75,7 @@ bytes-sum-requires c κs =
     let n = f .before .before in
     let a = n .before .before .before .before .before .args in
     let t = drop (a .at) (now (a .text)) in
-    (omega (arith, ends f), omega (arith, counts n, byte-low t 0), head-four t _ (says (n .before) .whole))
+    (ends f, omega (arith, counts n, byte-low t 0), head-four t _ (says (n .before) .whole), says (n .before) .digits)
 
 returns-5 : tie.Need-returns-5
 returns-5 c =
@@ -94,4 +94,4 @@ returns-5 c =
     )
 
 pub record-at-spec : {M : Type 1} → statement M
-record-at-spec = tie.close (tie.spec (λ c. search needs) returns (λ c. search needs) (λ c κs. search needs) returns-2 (λ c κs. search needs) (λ c. search needs) (λ c κs. let s = c .before .before .before .before .before in (s .pre, omega (arith, counts c, byte-low (drop (s .args .at) (now (s .args .text))) 0))) returns-3 (λ c κs. search needs) (λ c κs. search needs) (λ c κs. search needs) returns-4 (λ c. search needs) (λ c. search needs) (λ c. search needs) bytes-sum-requires returns-5)
+record-at-spec = tie.close (tie.spec (λ c. search needs) returns (λ c. search needs) (λ c κs. search needs) returns-2 (λ c κs. search needs) (λ c. search needs) (λ c κs. let s = c .before .before .before .before .before in (s .pre, omega (arith, counts c, byte-low (drop (s .args .at) (now (s .args .text))) 0))) returns-3 (λ c κs. search needs) (λ c κs. search needs) (λ c κs. search needs) returns-4 (λ c. search needs) bytes-sum-requires returns-5)
