@@ -6,7 +6,7 @@
 --     head-parts, head-four, head-says                          its first four bytes
 --     record-fits, digits-from, content-bytes, upper-count      what one has that is a record
 --     zero-says, code-says                                      what no code tells of it
-use Prim.Native.Nat.{ℕ, zero, suc, _+_, _*_, _/_, _%_, _<_, _≤_}
+use Prim.Native.Nat.{ℕ, zero, suc, _+_, _-_, _*_, _/_, _%_, _<_, _≤_}
 use mathlib.Core.Path.{_≡_, refl, sym, ap, _∙_}
 use mathlib.Core.Bool.{Bool, true, false, true≢false, cond, _&&_}
 use mathlib.Core.List.{List, [], _∷_, _++_}
@@ -186,9 +186,9 @@ module _ (text : List ℕ) (at : ℕ) (is : isRecord (drop at text) ≡ true) wh
   pub digits-from : (i n : ℕ) → i + n ≤ 2 * count + 10 → allDigits (take n (drop (at + 1 + i) text)) ≡ true
   digits-from i n h = all-part i n (2 * count + 10) (at + 1) text h record-digits
 
-  -- the content, by its digits
-  pub content-digits : allDigits (take (2 * count) (drop (at + 9) text)) ≡ true
-  content-digits = let e : at + 1 + 8 ≡ at + 9 = omega arith in rw e at (digits-from 8 (2 * count) (omega arith))
+  -- those of the content, and the eight before them
+  pub digits-among-head : allDigits (take (8 + 2 * count) (drop (at + 9 - 8) text)) ≡ true
+  digits-among-head = let e : at + 1 + 0 ≡ at + 9 - 8 = omega arith in rw e at (digits-from 0 (8 + 2 * count) (omega arith))
 
   pub content-bytes : contentIn (drop at text) ≡ bytesIn (take (2 * count) (drop (at + 9) text))
   unfolding contentIn

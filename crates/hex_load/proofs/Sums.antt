@@ -1,5 +1,5 @@
 -- Laws of digits read many at once.
---     take-two, take-eight, take-split, all-part     the digits at a place, one by one and in parts
+--     take-eight, take-split, all-part     the digits at a place, one by one and in parts
 --     joined-none, joined-some                       a sum over digits joined
 --     said-bytes, quad-none, quad-some               what is read of eight digits: the bytes that they stand for
 --     Parts, parts-of, parts-add, parts-total        four sums in one number
@@ -33,9 +33,6 @@ use Rattle.hex_load.proofs.Words.{bytes-packed}
 
 pub take-more : (n : ℕ) (s : List ℕ) (i : ℕ) → i < length s → take (suc n) (drop i s) ≡ getD s i 0 ∷ take n (drop (i + 1) s)
 take-more n s i h = let e : i + 1 ≡ suc i = omega arith in rw (e, drop-cons s i 0 h)
-
-pub take-two : (s : List ℕ) (i : ℕ) → i + 2 ≤ length s → take 2 (drop i s) ≡ getD s i 0 ∷ getD s (i + 1) 0 ∷ []
-take-two s i h = rw (take-more 1 s i (omega arith), take-more 0 s (i + 1) (omega arith))
 
 take-nothing : (n : ℕ) → take {A = ℕ} n [] ≡ []
 take-nothing zero = refl
@@ -169,13 +166,6 @@ module _ (s : List ℕ) (i q : ℕ) (there : i + 8 ≤ length s) (is : q ≡ byt
       rw (take-eight s i there) (p .0, p .1 ∙ ap apart (said-bytes _ (p .0)))
 
 -- ---- digits read as such, zeros behind them
-
-pub two-said : (s : List ℕ) (i w : ℕ) → i + 2 ≤ length s → allDigits (take 2 (drop i s)) ≡ true
-    → w ≡ packed (saidIn (getD s i 0 ∷ getD s (i + 1) 0 ∷ 48 ∷ 48 ∷ 48 ∷ 48 ∷ 48 ∷ 48 ∷ [])) → (w ∷ [] ≡ bytesIn (take 2 (drop i s))) × (w < 256)
-two-said s i w h all is =
-    let digits = take-two s i h in
-    let e : w ∷ [] ≡ saidIn (getD s i 0 ∷ getD s (i + 1) 0 ∷ []) = ap (λ (x : ℕ). x ∷ []) (is ∙ omega arith) in
-    (rw digits (e ∙ said-bytes (getD s i 0 ∷ getD s (i + 1) 0 ∷ []) (rw digits at all)), omega arith)
 
 pub take-four : (s : List ℕ) (i : ℕ) → i + 4 ≤ length s → take 4 (drop i s) ≡ getD s i 0 ∷ getD s (i + 1) 0 ∷ getD s (i + 2) 0 ∷ getD s (i + 3) 0 ∷ []
 take-four s i h =

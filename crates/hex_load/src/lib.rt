@@ -2,8 +2,8 @@
 // byte is stored; so where bytes are stored, digits are read as such.
 ghost use mathlib.Core.Path.{_≡_};
 ghost use mathlib.Core.Bool.{true, _&&_};
-ghost use mathlib.Core.List.{List, [], _∷_};
-ghost use Prim.Native.Nat.{ℕ, _+_, _*_, _/_, _%_, _≤_, _<_};
+ghost use mathlib.Core.List.{List, [], _∷_, _++_};
+ghost use Prim.Native.Nat.{ℕ, _+_, _-_, _*_, _/_, _%_, _≤_, _<_};
 ghost use lib.ListN.{length, getD, take, drop, set};
 ghost use lib.Seq.{sets};
 ghost use lib.Dec.{eqb, ltb};
@@ -26,23 +26,13 @@ const NO_SUM: u64 = 0x1_0000_0000;
 
 // ---- the window
 
-// A word with byte k set.
-fn with_byte(w: u32, k: usize, b: u32) -> u32
-    requires { ⌜ (k < 4) × (b < 256) ⌝ }
-    ensures { λ r. ⌜ windowBytes (r ∷ []) ≡ set (windowBytes (w ∷ [])) k b ⌝ }
+// The first k bytes of a word, and the others of another.
+fn joined(first: u32, other: u32, k: usize) -> u32
+    requires { ⌜ k < 4 ⌝ }
+    ensures { λ r. ⌜ windowBytes (r ∷ []) ≡ take k (windowBytes (first ∷ [])) ++ drop k (windowBytes (other ∷ [])) ⌝ }
 {
-    let s = 8 * k as u32;
-    let old = (w >> s) % 256;
-    w - (old << s) + (b << s)
-}
-
-// Sets byte p of the window.
-fn set_byte(memory: &mut [u32], p: usize, b: u32)
-    requires { ⌜ (p / 4 < length (now memory)) × (b < 256) ⌝ }
-    ensures { λ r. ⌜ windowBytes (now (memory .exit)) ≡ set (windowBytes (now (memory .entry))) p b ⌝ }
-{
-    let i = p / 4;
-    memory[i] = with_byte(memory[i], p % 4, b);
+    let unit = 1u32 << (8 * k as u32);
+    first % unit + (other - other % unit)
 }
 
 // The place of an address among the window's bytes.
@@ -314,14 +304,6 @@ fn word_at(text: &[u8], i: usize) -> u32
     )
 }
 
-// The byte that the two digits at a place stand for.
-fn byte_at(text: &[u8], i: usize) -> u32
-    requires { ⌜ (i + 2 ≤ length (now text)) × (allDigits (take 2 (drop i (now text))) ≡ true) ⌝ }
-    ensures { λ r. ⌜ (r ∷ [] ≡ bytesIn (take 2 (drop i (now (text .entry))))) × (r < 256) ⌝ }
-{
-    eight::word_said(text[i], text[i + 1], b'0', b'0', b'0', b'0', b'0', b'0')
-}
-
 // Stores the bytes that 8 m digits stand for, from word i of the window on.
 fn store_words(memory: &mut [u32], i: usize, text: &[u8], from: usize, m: usize)
     requires { ⌜ (i + m ≤ length (now memory)) × (from + 8 * m ≤ length (now text)) × (m ≤ 64) × (allDigits (take (8 * m) (drop from (now text))) ≡ true) ⌝ }
@@ -334,48 +316,54 @@ fn store_words(memory: &mut [u32], i: usize, text: &[u8], from: usize, m: usize)
     }
 }
 
-// Stores the n bytes that 2 n digits stand for, from byte p of the window on, one by one.
-fn store_singly(memory: &mut [u32], p: usize, text: &[u8], from: usize, n: usize)
-    requires { ⌜ (p + n ≤ 4 * length (now memory)) × (length (now memory) ≤ 16384) × (from + 2 * n ≤ length (now text)) × (n < 256) × (allDigits (take (2 * n) (drop from (now text))) ≡ true) ⌝ }
+// Stores the n bytes that 2 n digits stand for, from byte p of the window on, which are not the last of a word. Digits stand before
+// them too, so that a word can be read that ends with them.
+fn store_within(memory: &mut [u32], p: usize, text: &[u8], from: usize, n: usize)
+    requires { ⌜ (p % 4 + n < 4) × (p + n ≤ 4 * length (now memory)) × (length (now memory) ≤ 16384) × (0 < n) × (8 ≤ from) × (from + 2 * n ≤ length (now text)) × (allDigits (take (8 + 2 * n) (drop (from - 8) (now text))) ≡ true) ⌝ }
     ensures { λ r. ⌜ windowBytes (now (memory .exit)) ≡ sets (windowBytes (now (memory .entry))) p (bytesIn (take (2 * n) (drop from (now (text .entry))))) ⌝ }
 {
-    let mut k = 0;
-    while k < n {
-        set_byte(memory, p + k, byte_at(text, from + 2 * k));
-        k += 1;
+    let i = p / 4;
+    let k = p % 4;
+    let end = k + n;
+    let read = word_at(text, from + 2 * n - 8) >> (8 * (4 - end as u32));
+    let w = memory[i];
+    memory[i] = joined(joined(w, read, k), w, end);
+}
+
+// The same of bytes that are the last of a word, and of no bytes.
+fn store_last(memory: &mut [u32], p: usize, text: &[u8], from: usize, n: usize)
+    requires { ⌜ (n ≡ (4 - p % 4) % 4) × (p + n ≤ 4 * length (now memory)) × (length (now memory) ≤ 16384) × (8 ≤ from) × (from + 2 * n ≤ length (now text)) × (allDigits (take (8 + 2 * n) (drop (from - 8) (now text))) ≡ true) ⌝ }
+    ensures { λ r. ⌜ windowBytes (now (memory .exit)) ≡ sets (windowBytes (now (memory .entry))) p (bytesIn (take (2 * n) (drop from (now (text .entry))))) ⌝ }
+{
+    if 0 < n {
+        let i = p / 4;
+        memory[i] = joined(memory[i], word_at(text, from + 2 * n - 8), 4 - n);
     }
 }
 
-// The same where a word begins: by words, and what is left of them.
-fn store_aligned(memory: &mut [u32], p: usize, text: &[u8], from: usize, n: usize)
-    requires { ⌜ (p % 4 ≡ 0) × (p + n ≤ 4 * length (now memory)) × (length (now memory) ≤ 16384) × (from + 2 * n ≤ length (now text)) × (n < 256) × (allDigits (take (2 * n) (drop from (now text))) ≡ true) ⌝ }
-    ensures { λ r. ⌜ windowBytes (now (memory .exit)) ≡ sets (windowBytes (now (memory .entry))) p (bytesIn (take (2 * n) (drop from (now (text .entry))))) ⌝ }
-{
-    let m = n / 4;
-    store_words(memory, p / 4, text, from, m);
-    store_singly(memory, p + 4 * m, text, from + 8 * m, n - 4 * m);
-}
-
-// How many of n bytes, from byte p of the window on, stand before the next word.
-fn before_word(p: usize, n: usize) -> usize
-    ensures { λ r. ⌜ (r ≤ n) × (r < 4) × (r < n → (p + r) % 4 ≡ 0) ⌝ }
+// The same of as many of n bytes as end with a word, and how many these are.
+fn store_whole(memory: &mut [u32], p: usize, text: &[u8], from: usize, n: usize) -> usize
+    requires { ⌜ (p + n ≤ 4 * length (now memory)) × (length (now memory) ≤ 16384) × (8 ≤ from) × (from + 2 * n ≤ length (now text)) × (n < 256) × (allDigits (take (8 + 2 * n) (drop (from - 8) (now text))) ≡ true) ⌝ }
+    ensures { λ r. ⌜ (r ≤ n) × ((p + r) % 4 + (n - r) < 4) × (windowBytes (now (memory .exit)) ≡ sets (windowBytes (now (memory .entry))) p (bytesIn (take (2 * r) (drop from (now (text .entry)))))) ⌝ }
 {
     let k = (4 - p % 4) % 4;
     if n < k {
-        return n;
+        return 0;
     }
-    k
+    store_last(memory, p, text, from, k);
+    let m = (n - k) / 4;
+    store_words(memory, (p + k) / 4, text, from + 2 * k, m);
+    k + 4 * m
 }
 
-// The same anywhere: first what stands before the next word.
+// The same of n bytes anywhere.
 fn store_bytes(memory: &mut [u32], p: usize, text: &[u8], from: usize, n: usize)
-    requires { ⌜ (p + n ≤ 4 * length (now memory)) × (length (now memory) ≤ 16384) × (from + 2 * n ≤ length (now text)) × (n < 256) × (allDigits (take (2 * n) (drop from (now text))) ≡ true) ⌝ }
+    requires { ⌜ (p + n ≤ 4 * length (now memory)) × (length (now memory) ≤ 16384) × (8 ≤ from) × (from + 2 * n ≤ length (now text)) × (n < 256) × (allDigits (take (8 + 2 * n) (drop (from - 8) (now text))) ≡ true) ⌝ }
     ensures { λ r. ⌜ windowBytes (now (memory .exit)) ≡ sets (windowBytes (now (memory .entry))) p (bytesIn (take (2 * n) (drop from (now (text .entry))))) ⌝ }
 {
-    let k = before_word(p, n);
-    store_singly(memory, p, text, from, k);
+    let k = store_whole(memory, p, text, from, n);
     if k < n {
-        store_aligned(memory, p + k, text, from + 2 * k, n - k);
+        store_within(memory, p + k, text, from + 2 * k, n - k);
     }
 }
 

@@ -7,7 +7,7 @@ use Rattle.records.specs.Window.{windowBytes}
 use Rattle.records.specs.Load.{bytesIn, byteIn, kindIn, addressIn, stored}
 use Rattle.records.proofs.Exactly.{byte-low}
 use Rattle.hex_load.proofs.Sums.{in-long, there}
-use Rattle.hex_load.proofs.Records.{head-parts, code-says, record-fits, content-digits, content-bytes}
+use Rattle.hex_load.proofs.Records.{head-parts, code-says, record-fits, digits-among-head, content-bytes}
 use Rattle.hex_load.proofs.Stores.{inside-window, run-stored, said-data, said-other, said-empty}
 use borrow.Author.Needs.{needs}
 use Rattle.hex_load.proofs.store_record.Statement.{statement}
@@ -67,9 +67,10 @@ store-bytes-requires c κs =
     let count = count-is n in (
       in-window p,
       s .pre .3,
+      omega arith,
       omega (arith, count, record-fits (now (a .text)) (a .at) (says .0)),
       omega (arith, count, byte-low t 0),
-      rw count (content-digits (now (a .text)) (a .at) (says .0)),
+      rw count (digits-among-head (now (a .text)) (a .at) (says .0)),
     )
 
 returns : tie.Need-returns

@@ -43,7 +43,7 @@ loop-again c =
     let h = c .before .loop-test .taken in (
       omega (arith, h),
       length-set (l .loop .memory) (a .i + l .loop .k) (c .word-at .result) ∙ v .1,
-      v .2 ∙ words-turn (now (a .text)) (a .from) (a .m) (l .loop .k) h (l .loop .memory) (a .i) (c .word-at .result) (s .pre .1) (c .word-at .ensures),
+      v .2 ∙ words-turn (now (a .text)) (a .from) (a .m) (l .loop .k) h (l .loop .memory) (a .i) (c .word-at .result) (omega (arith, h, v .1, s .pre .0)) (s .pre .1) (c .word-at .ensures),
     )
 
 returns : tie.Need-returns Inv-loop μ-loop
