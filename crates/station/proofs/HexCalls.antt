@@ -1,25 +1,28 @@
 -- What the C calls for windows make of an answer.
 --     minus-is, minus-fits     a code with a minus
 --     length-fits, export-fits     the length of a text is a number of theirs
+--     length-rule, export-rule, load-rule     what they say, by numbers
 use Prim.Native.Nat.{ℕ, zero, suc, _-_, _*_, _%_, _^_, min, _<_, _≤_}
 use mathlib.Core.Path.{_≡_, refl, sym, ap, _∙_}
 use mathlib.Core.Bool.{Bool, true, false, cond}
 use mathlib.Core.List.{List, _++_}
 use native.Mathlib.Omega.{arith}
 use lib.IntN.{ℤ, pos, negsuc, negℤ, _-ℤ_}
-use lib.ListN.{length, drop}
+use lib.ListN.{length, drop, length-append, length-drop}
 use lib.Dec.{ltb, eqb}
-use borrow.Author.Tests.{lt-ltb}
+use borrow.Author.Tests.{lt-ltb, le-ltb, ne-eqb}
 use mir.Syntax.{w64}
 use mir.Val.{SFits, toZ, ofZ}
 use mir.ValLaws.{toZ-pos, toZ-ofZ}
 use Rattle.machine.specs.Window.{isWindowOutOfForm}
+use Rattle.records.specs.Window.{windowBytes, windowWords}
+use Rattle.records.specs.Load.{codeFrom, codeOf, said, stored, loadOf}
 use Rattle.records.specs.Export.{exportOf, exportLength}
 use Rattle.records.proofs.Length.{export-length}
 use Rattle.records.proofs.Promises.{good-window}
 use Rattle.hex_export.specs.declared.Exported.the-variants.{Written, Refused}
 use Rattle.hex_export.specs.Results.{Export, lengthOf, exportedTo}
-use Rattle.station.specs.HexCalls.{minusCode, Fits, ExportUnique, LoadUnique}
+use Rattle.station.specs.HexCalls.{minusCode, exportedNumber, Fits, lengthResult, ExportUnique, LoadUnique, LengthRule, ExportRule, LoadRule}
 
 zero-minus : (n : ℕ) → pos 0 -ℤ pos n ≡ negℤ (pos n)
 zero-minus zero = refl
@@ -72,3 +75,59 @@ export-unique start words output r q after also p o = (p .result ∙ sym (o .res
 
 pub load-unique : LoadUnique
 load-unique start words text r q after also p o = (p .result ∙ sym (o .result), p .stored ∙ sym (o .stored))
+
+-- ---- by numbers
+
+pub length-rule : LengthRule
+unfolding lengthOf exportedNumber lengthResult
+length-rule start count = record { outOfForm = λ f. simp f; told = λ f. simp f }
+
+module _ (start : ℕ) (words output : List ℕ) where
+  export-bad : isWindowOutOfForm start (length words) ≡ true → (exportedNumber (exportedTo start words output .answer) ≡ negsuc 1) × (exportedTo start words output .out ≡ output)
+  unfolding exportedTo exportedNumber
+  export-bad f = (simp f, simp f)
+
+  module _ (f : isWindowOutOfForm start (length words) ≡ false) where
+    long : length (exportOf start words) ≡ exportLength start (length words)
+    long = export-length start words (good-window start (length words) f)
+
+    export-short : length output < exportLength start (length words) → (exportedNumber (exportedTo start words output .answer) ≡ negsuc 23) × (exportedTo start words output .out ≡ output)
+    unfolding exportedTo exportedNumber
+    export-short h = let t = lt-ltb (length output) (length (exportOf start words)) (rw long h) in (simp (f, t), simp (f, t))
+
+    export-done : exportLength start (length words) ≤ length output
+        → (exportedNumber (exportedTo start words output .answer) ≡ pos (exportLength start (length words))) × (exportedTo start words output .out ≡ exportOf start words ++ drop (exportLength start (length words)) output)
+    unfolding exportedTo exportedNumber
+    export-done h = let t = le-ltb (length output) (length (exportOf start words)) (rw long h) in (simp (f, t) (ap pos long), simp (f, t) (rw long))
+
+pub export-rule : ExportRule
+export-rule start words output r after p =
+    record {
+      outOfForm = λ f. let q = export-bad start words output f in (p .result ∙ q .0, p .written ∙ q .1);
+      tooShort = λ f h. let q = export-short start words output f h in (p .result ∙ q .0, p .written ∙ q .1);
+      exported = λ f h.
+          let q = export-done start words output f h in
+          let e = p .written ∙ q .1 in
+          (p .result ∙ q .0, e, rw e (simp (length-append, length-drop, long start words output f) (omega (arith, h))));
+    }
+
+module _ (start : ℕ) (words text : List ℕ) where
+  load-bad : isWindowOutOfForm start (length words) ≡ true → (minusCode (loadOf start words text .code) ≡ negsuc 1) × (loadOf start words text .words ≡ words)
+  unfolding codeOf loadOf
+  load-bad f = (simp f, simp f)
+
+  load-refused : isWindowOutOfForm start (length words) ≡ false → (n : ℕ) → codeFrom (length text) start (length words) 0 text ≡ suc n → (minusCode (loadOf start words text .code) ≡ negsuc n) × (loadOf start words text .words ≡ words)
+  unfolding codeOf loadOf
+  load-refused f n c = let z = ne-eqb (suc n) 0 (λ e. omega arith) in (simp (f, c, z), simp (f, c, z))
+
+  load-done : isWindowOutOfForm start (length words) ≡ false → codeFrom (length text) start (length words) 0 text ≡ 0 → (minusCode (loadOf start words text .code) ≡ pos 0) × (loadOf start words text .words ≡ windowWords (stored start (windowBytes words) (said text)))
+  unfolding codeOf loadOf
+  load-done f c = (simp (f, c), simp (f, c))
+
+pub load-rule : LoadRule
+load-rule start words text r after p =
+    record {
+      outOfForm = λ f. let q = load-bad start words text f in (p .result ∙ q .0, p .stored ∙ q .1);
+      refused = λ f n c. let q = load-refused start words text f n c in (p .result ∙ q .0, p .stored ∙ q .1);
+      loaded = λ f c. let q = load-done start words text f c in (p .result ∙ q .0, p .stored ∙ q .1);
+    }

@@ -1,9 +1,14 @@
 -- The C calls for windows as HEX text (document 02, Ask 7): what they return, and what they leave in the output and in the window.
-use Prim.Native.Nat.{ℕ, _^_, _<_}
+use Prim.Native.Nat.{ℕ, suc, _^_, _<_, _≤_}
 use mathlib.Core.Path.{_≡_}
-use mathlib.Core.List.{List}
-use lib.IntN.{ℤ, pos, negℤ}
-use Rattle.records.specs.Load.{Load, loadOf}
+use mathlib.Core.Bool.{true, false}
+use mathlib.Core.List.{List, _++_}
+use lib.IntN.{ℤ, pos, negsuc, negℤ}
+use lib.ListN.{length, drop}
+use Rattle.machine.specs.Window.{isWindowOutOfForm}
+use Rattle.records.specs.Window.{windowBytes, windowWords}
+use Rattle.records.specs.Export.{exportOf, exportLength}
+use Rattle.records.specs.Load.{Load, codeFrom, said, stored, loadOf}
 use Rattle.hex_export.specs.declared.Exported.{Exported}
 use Rattle.hex_export.specs.declared.Exported.the-variants.{Written, Refused}
 use Rattle.hex_export.specs.Results.{Export, lengthOf, exportedTo}
@@ -41,3 +46,42 @@ ExportUnique = (start : ℕ) (words output : List ℕ) (r q : ℤ) (after also :
 
 abbrev pub LoadUnique : Type 0
 LoadUnique = (start : ℕ) (words text : List ℕ) (r q : ℤ) (after also : List ℕ) → LoadPromised start words text r after → LoadPromised start words text q also → (r ≡ q) × (after ≡ also)
+
+-- What the calls say in the documents' numbers: -2 is `negsuc 1`, -16 to -19 are `negsuc 15` to `negsuc 18`, -24 is `negsuc 23`.
+
+pub record LengthByNumbers (start count : ℕ) : Type 0 where
+  -- a window out of form: -2; any other: how long its text is
+  pub outOfForm : isWindowOutOfForm start count ≡ true → lengthResult start count ≡ negsuc 1
+  pub told : isWindowOutOfForm start count ≡ false → lengthResult start count ≡ pos (exportLength start count)
+
+pub record ExportByNumbers (start : ℕ) (words output : List ℕ) (r : ℤ) (after : List ℕ) : Type 0 where
+  -- a window out of form: -2, and the output is as it was
+  pub outOfForm : isWindowOutOfForm start (length words) ≡ true → (r ≡ negsuc 1) × (after ≡ output)
+  -- one in form, with an output that is shorter than the text: -24, and the output is as it was
+  pub tooShort : isWindowOutOfForm start (length words) ≡ false → length output < exportLength start (length words) → (r ≡ negsuc 23) × (after ≡ output)
+  -- else how many bytes the text has: the output begins with it, every byte past it is as it was, and there are no more and no fewer
+  pub exported :
+      isWindowOutOfForm start (length words) ≡ false → exportLength start (length words) ≤ length output
+      → (r ≡ pos (exportLength start (length words))) × (after ≡ exportOf start words ++ drop (exportLength start (length words)) output) × (length after ≡ length output)
+
+pub record LoadByNumbers (start : ℕ) (words text : List ℕ) (r : ℤ) (after : List ℕ) : Type 0 where
+  -- a window out of form: -2, and the window is as it was
+  pub outOfForm : isWindowOutOfForm start (length words) ≡ true → (r ≡ negsuc 1) × (after ≡ words)
+  -- one in form, with a text to which a code applies: that code with a minus, and the window is as it was
+  pub refused :
+      isWindowOutOfForm start (length words) ≡ false → (n : ℕ) → codeFrom (length text) start (length words) 0 text ≡ suc n
+      → (r ≡ negsuc n) × (after ≡ words)
+  -- else 0, and the window has what the text says
+  pub loaded :
+      isWindowOutOfForm start (length words) ≡ false → codeFrom (length text) start (length words) 0 text ≡ 0
+      → (r ≡ pos 0) × (after ≡ windowWords (stored start (windowBytes words) (said text)))
+
+-- `length-rule`, `export-rule`, `load-rule`: whatever window, output and text are, that is what the calls promise
+abbrev pub LengthRule : Type 0
+LengthRule = (start count : ℕ) → LengthByNumbers start count
+
+abbrev pub ExportRule : Type 0
+ExportRule = (start : ℕ) (words output : List ℕ) (r : ℤ) (after : List ℕ) → ExportPromised start words output r after → ExportByNumbers start words output r after
+
+abbrev pub LoadRule : Type 0
+LoadRule = (start : ℕ) (words text : List ℕ) (r : ℤ) (after : List ℕ) → LoadPromised start words text r after → LoadByNumbers start words text r after
