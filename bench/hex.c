@@ -139,9 +139,10 @@ int main(void)
 {
     static const size_t counts[] = { 256, 2048, HEX_WORDS_MOST };
     static const struct { const char *name; size_t size, from; } records[] = {
-        { "load-1", 1, 0 }, { "load-4", 4, 0 }, { "load-8", 8, 0 },
-        { "load-20", 20, 0 }, { "load-32", 32, 0 }, { "load-255", 255, 0 },
-        { "load-16+1", 16, 1 }, { "load-16+2", 16, 2 }
+        { "load-1", 1, 0 }, { "load-2", 2, 0 }, { "load-3", 3, 0 },
+        { "load-4", 4, 0 }, { "load-8", 8, 0 }, { "load-20", 20, 0 },
+        { "load-32", 32, 0 }, { "load-255", 255, 0 }, { "load-4+1", 4, 1 },
+        { "load-4+2", 4, 2 }, { "load-16+1", 16, 1 }, { "load-16+2", 16, 2 }
     };
 
     for (size_t i = 0; i < HEX_WORDS_MOST; i++)

@@ -87,8 +87,8 @@ fn quads_sum(text: &[u8], from: usize, m: usize, head: u64, last: u64) -> u64
     parts_sum(parts)
 }
 
-// The sum of a record's first four bytes, and of those behind them, one more than its count; none if one is no digit. The last of
-// them, one to four, are those of eight digits that begin further ahead, among digits.
+// The sum of a record's first four bytes, and of those behind them, one more than its count; none if one is no digit. Its last eight
+// digits are read at once: of their four bytes as many are added as are not read by fours from the ninth digit on.
 fn bytes_sum(text: &[u8], at: usize, count: usize, head: u64) -> u64
     requires { ⌜ (at + (2 * count + 12) ≤ length (now text)) × (count < 256) × FourBytes head × (allDigits (take 8 (drop (at + 1) (now text))) ≡ true) ⌝ }
     ensures { λ r. ⌜ r ≡ sumFrom (partsSum head) (take (2 * (count + 1)) (drop (at + 9) (now (text .entry)))) ⌝ }
@@ -316,8 +316,8 @@ fn store_words(memory: &mut [u32], i: usize, text: &[u8], from: usize, m: usize)
     }
 }
 
-// Stores the n bytes that 2 n digits stand for, from byte p of the window on, which are not the last of a word. Digits stand before
-// them too, so that a word can be read that ends with them.
+// Stores the n bytes that 2 n digits stand for, from byte p of the window on, which do not end with a word. They are the last bytes of
+// eight digits, since eight more stand before them.
 fn store_within(memory: &mut [u32], p: usize, text: &[u8], from: usize, n: usize)
     requires { ⌜ (p % 4 + n < 4) × (p + n ≤ 4 * length (now memory)) × (length (now memory) ≤ 16384) × (0 < n) × (8 ≤ from) × (from + 2 * n ≤ length (now text)) × (allDigits (take (8 + 2 * n) (drop (from - 8) (now text))) ≡ true) ⌝ }
     ensures { λ r. ⌜ windowBytes (now (memory .exit)) ≡ sets (windowBytes (now (memory .entry))) p (bytesIn (take (2 * n) (drop from (now (text .entry))))) ⌝ }
@@ -330,7 +330,7 @@ fn store_within(memory: &mut [u32], p: usize, text: &[u8], from: usize, n: usize
     memory[i] = joined(joined(w, read, k), w, end);
 }
 
-// The same of bytes that are the last of a word, and of no bytes.
+// The same of bytes that end with a word, the first of which they do not have, and of no bytes.
 fn store_last(memory: &mut [u32], p: usize, text: &[u8], from: usize, n: usize)
     requires { ⌜ (n ≡ (4 - p % 4) % 4) × (p + n ≤ 4 * length (now memory)) × (length (now memory) ≤ 16384) × (8 ≤ from) × (from + 2 * n ≤ length (now text)) × (allDigits (take (8 + 2 * n) (drop (from - 8) (now text))) ≡ true) ⌝ }
     ensures { λ r. ⌜ windowBytes (now (memory .exit)) ≡ sets (windowBytes (now (memory .entry))) p (bytesIn (take (2 * n) (drop from (now (text .entry))))) ⌝ }
@@ -341,7 +341,7 @@ fn store_last(memory: &mut [u32], p: usize, text: &[u8], from: usize, n: usize)
     }
 }
 
-// The same of as many of n bytes as end with a word, and how many these are.
+// The same of as many of n bytes as end with a word; it answers how many.
 fn store_whole(memory: &mut [u32], p: usize, text: &[u8], from: usize, n: usize) -> usize
     requires { ⌜ (p + n ≤ 4 * length (now memory)) × (length (now memory) ≤ 16384) × (8 ≤ from) × (from + 2 * n ≤ length (now text)) × (n < 256) × (allDigits (take (8 + 2 * n) (drop (from - 8) (now text))) ≡ true) ⌝ }
     ensures { λ r. ⌜ (r ≤ n) × ((p + r) % 4 + (n - r) < 4) × (windowBytes (now (memory .exit)) ≡ sets (windowBytes (now (memory .entry))) p (bytesIn (take (2 * r) (drop from (now (text .entry)))))) ⌝ }
