@@ -1,7 +1,7 @@
 # shellcheck shell=bash
 # What the commands s5933-log and s5933-hex share: building a program where that is needed, and running it. A command says its name,
 # its crate, the folder that it stands in, and, as an installed copy, its own folder; README.md says what the exit statuses mean.
-# shellcheck disable=SC2154
+# shellcheck disable=SC2154,SC2034
 target=$here/target program=${own:-$here/target/bin}/$crate version=${own:-$here}/VERSION
 
 say() { echo "$tool: $*" >&2; }
@@ -135,8 +135,15 @@ find_emulator() { # TOOLS
     die 2 "this is x86-64 code, and neither rt, of the Rattle kit, nor qemu-x86_64 (Debian's package qemu-user) is on the PATH"
 }
 
-check_files() { # FILE...
+# What the words name, in `files`. A word that begins with - is a file only if the first word is --, which is none; - alone is standard
+# input.
+files=()
+name_files() { # WORDS...
     local name
+    if [ "${1:-}" = -- ]; then shift; else
+        for name; do [[ $name != -?* ]] || die 2 "$name is not understood; $usage"; done
+    fi
+    files=("$@")
     for name; do
         [ "$name" != - ] || continue
         [ -e "$name" ] || die 1 "$name: no such file"

@@ -1,14 +1,14 @@
 /* hexcompare.c: the C calls on windows against the second program's, with
  * their buffers against guard pages.
  *
- *   hexcompare hexcases.txt [FILES [SEED]]
+ *   hexcompare hexcases.txt [MUTATED [SEED]]
  *
  * Runs the cases of the table, windows and output lengths of every sort,
- * and FILES generated files (10,000 if not given). What a call must not
- * change lies in pages that can't be written meanwhile; after it every byte
- * of the others is compared. A refused load is compared with the words
- * before it, and a good export is loaded again, without a look at the
- * second program. */
+ * and generated files, as many as it takes until MUTATED of them (10,000 if
+ * not given) are mutated ones. What a call must not change lies in pages
+ * that can't be written meanwhile; after it every byte of the others is
+ * compared. A refused load is compared with the words before it, and a good
+ * export is loaded again, without a look at the second program. */
 #define _POSIX_C_SOURCE 200809L
 #include "guard.h"
 #include "hexcall.h"
@@ -22,7 +22,7 @@
 #include <sys/mman.h>
 #include <time.h>
 
-enum { SIZES = 3, CODES = HEX_SHORT_OUTPUT + 1, FILES = 10000 };
+enum { SIZES = 3, CODES = HEX_SHORT_OUTPUT + 1, MUTATED = 10000 };
 
 /* A window, and where its words and the other buffer are to stand. */
 struct window {
@@ -328,19 +328,21 @@ static void all_exports_apart(void)
 
 /* ---- generated files ---- */
 
-static void files(unsigned long n)
+/* Until so many were mutated; gives how many they were in all. */
+static unsigned long files(unsigned long mutated)
 {
     static struct hexmake f;
+    unsigned long i = 0;
     char name[32];
 
     memset(reached, 0, sizeof reached);
-    for (unsigned long i = 0; i < n; i++) {
+    for (unsigned long n = 0; n < mutated; i++) {
         struct window w = { name, 0, 0, f.words, 0, 0 };
         size_t enough;
 
         snprintf(name, sizeof name, "file %lu", i);
         make_window(&f);
-        make_file(&f);
+        n += make_file(&f);
         w.start = f.start;
         w.count = f.count;
         compare_load(w, f.text, f.length);
@@ -349,6 +351,7 @@ static void files(unsigned long n)
             compare_export(w, enough - random32() % 2);
         }
     }
+    return i;
 }
 
 /* The files met every code, and often enough to mean something. */
@@ -455,10 +458,11 @@ static void linear(void)
 
 int main(int argc, char **argv)
 {
-    unsigned long n = argc > 2 ? strtoul(argv[2], NULL, 10) : FILES;
+    unsigned long mutated = argc > 2 ? strtoul(argv[2], NULL, 10) : MUTATED;
+    unsigned long n;
 
     if (argc < 2) {
-        fputs("usage: hexcompare hexcases.txt [FILES [SEED]]\n", stderr);
+        fputs("usage: hexcompare hexcases.txt [MUTATED [SEED]]\n", stderr);
         return 2;
     }
     guard_set_up("hexcompare", FILE_ROOM);
@@ -474,9 +478,10 @@ int main(int argc, char **argv)
     every_output();
     every_text();
     all_exports_apart();
-    files(n);
+    n = files(mutated);
     all_reached(n);
     linear();
-    printf("hexcompare: %lu calls, %lu files\n", calls, n);
+    printf("hexcompare: %lu calls, %lu files, %lu of them mutated\n", calls,
+           n, mutated);
     return 0;
 }

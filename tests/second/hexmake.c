@@ -4,7 +4,6 @@
 #include "guard.h"
 #include "hexfile.h"
 
-#include <stdbool.h>
 #include <string.h>
 
 enum { SEGMENT = 0x10000, DATA_MOST = 255 };
@@ -404,7 +403,19 @@ void make_window(struct hexmake *f)
     any_words(f);
 }
 
-void make_file(struct hexmake *f)
+/* Some mutations in a row; true if they leave another text. */
+static bool mutated(struct hexmake *f)
+{
+    static uint8_t before[FILE_ROOM];
+    size_t length = f->length;
+
+    memcpy(before, f->text, length);
+    for (uint32_t n = chance(70) ? 1 : 2 + below(3); n > 0; n--)
+        mutate(f);
+    return f->length != length || memcmp(f->text, before, length) != 0;
+}
+
+bool make_file(struct hexmake *f)
 {
     int64_t length = -1;
 
@@ -417,7 +428,5 @@ void make_file(struct hexmake *f)
         f->length = (size_t)length;
     else
         add_records(f);
-    if (chance(80))
-        for (uint32_t n = chance(70) ? 1 : 2 + below(3); n > 0; n--)
-            mutate(f);
+    return chance(80) && mutated(f);
 }

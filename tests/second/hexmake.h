@@ -3,6 +3,7 @@
 #ifndef HEXMAKE_H
 #define HEXMAKE_H
 
+#include <stdbool.h>
 #include <stddef.h>
 #include <stdint.h>
 
@@ -25,7 +26,7 @@ void add_record(struct hexmake *f, uint32_t length, uint32_t offset,
 void make_window(struct hexmake *f);
 
 /* A file for the window: an export of other words than it has, or other
- * records, mutated most often. */
-void make_file(struct hexmake *f);
+ * records, mutated most often; true if a mutation made another text of it. */
+bool make_file(struct hexmake *f);
 
 #endif
