@@ -1,7 +1,7 @@
 -- What is taken for a record is the text of one.
 use Prim.Native.Nat.{ℕ, zero, suc, _+_, _-_, _*_, _/_, _%_, _<_, _≤_}
 use mathlib.Core.Path.{_≡_, refl, sym, ap, _∙_}
-use mathlib.Core.Bool.{true, _&&_}
+use mathlib.Core.Bool.{Bool, true, false, not, cond, _&&_}
 use mathlib.Core.List.{List, [], _∷_, _++_, append-assoc}
 use native.Mathlib.Omega.{arith}
 use lib.ListN.{length, getD, take, drop, length-drop, take-append-drop}
@@ -9,11 +9,12 @@ use lib.Seq.{drop-cons, drop-drop, length-take-le}
 use lib.Dec.{eqb, ltb}
 use borrow.Author.Tests.{ltb-true, eqb-true}
 use Rattle.hex.specs.Hex.{digitNumber, allDigits, digits, numberFrom}
+use Rattle.machine.specs.Codes.{done, notAHexRecord, wrongSum, outsideTheWindow}
 use Rattle.laws.proofs.Below.{both}
 use Rattle.hex.proofs.Numbers.{digits-number}
 use Rattle.eight.specs.Packed.{Each}
 use Rattle.records.specs.Record.{Record, total, front, check, allBytes, hexes, textOf}
-use Rattle.records.specs.Load.{bytesIn, byteIn, bytesAt, countIn, offsetIn, kindIn, contentIn, totalIn, restOf, isKind, isRecord}
+use Rattle.records.specs.Load.{bytesIn, byteIn, bytesAt, countIn, offsetIn, kindIn, contentIn, totalIn, restOf, isKind, isRecord, addressIn, allInside, recordCode}
 use Rattle.records.specs.Promises.{ReadsRecords}
 use Rattle.records.proofs.Bytes.{total-append}
 use Rattle.records.proofs.Read.{bytes-one}
@@ -124,9 +125,10 @@ module _ (t : List ℕ) where
       let after : drop m (drop 1 t) ≡ 10 ∷ restOf t = drop-drop m 1 t ∙ rw (one, two, drop-cons t (m + 1) 0 h, f) in
       drop-cons t 0 0 (omega arith) ∙ rw e (ap (λ (l : List ℕ). 58 ∷ l) (sym (take-append-drop m (drop 1 t)) ∙ rw after))
 
-pub reads-records : ReadsRecords
+-- a record with a right sum
+right : (t : List ℕ) → isRecord t ≡ true → totalIn t % 256 ≡ 0 → t ≡ textOf (read t) ++ restOf t
 unfolding isRecord textOf
-reads-records t is zero-sum =
+right t is zero-sum =
     let m = 2 * countIn t + 10 in
     let p = both (ltb (m + 1) (length t) && eqb (getD t 0 0) 58) _ is in
     let q = both (ltb (m + 1) (length t)) (eqb (getD t 0 0) 58) (p .0) in
@@ -136,3 +138,14 @@ reads-records t is zero-sum =
     let digits = hexes-are t (rw length-drop (omega arith)) (d .0) zero-sum in
     whole t long (eqb-true (getD t 0 0) 58 (q .1)) (eqb-true (getD t (m + 1) 0) 10 (d .1))
     ∙ rw digits (sym (ap (λ (l : List ℕ). 58 ∷ l) (append-assoc (take m (drop 1 t)) (10 ∷ []) (restOf t))))
+
+no-code : (r z o : Bool) → cond (not r) notAHexRecord (cond (not z) wrongSum (cond o outsideTheWindow done)) ≡ done → (r ≡ true) × (z ≡ true)
+no-code true true o e = (refl, refl)
+no-code true false o e = absurd (omega arith)
+no-code false z o e = absurd (omega arith)
+
+pub reads-records : ReadsRecords
+unfolding recordCode
+reads-records start words upper t e =
+    let p = no-code (isRecord t) (eqb (totalIn t % 256) 0) (eqb (kindIn t) 0 && not (allInside start words (addressIn upper t) (countIn t))) e in
+    right t (p .0) (eqb-true (totalIn t % 256) 0 (p .1))

@@ -1,7 +1,7 @@
 -- What is promised of exports and loads (document 02, Ask 7).
-use Prim.Native.Nat.{ℕ, _%_, _^_, _<_, _≤_}
+use Prim.Native.Nat.{ℕ, _^_, _<_, _≤_}
 use mathlib.Core.Path.{_≡_}
-use mathlib.Core.Bool.{true, false}
+use mathlib.Core.Bool.{false}
 use mathlib.Core.List.{List, _++_}
 use lib.ListN.{length}
 use Rattle.machine.specs.Codes.{done}
@@ -9,7 +9,7 @@ use Rattle.machine.specs.Window.{isWindowOutOfForm}
 use Rattle.eight.specs.Packed.{Each}
 use Rattle.records.specs.Record.{Record, textOf}
 use Rattle.records.specs.Export.{exportOf, exportLength}
-use Rattle.records.specs.Load.{kindIn, offsetIn, contentIn, totalIn, restOf, isRecord, loadOf}
+use Rattle.records.specs.Load.{kindIn, offsetIn, contentIn, restOf, recordCode, loadOf}
 
 -- `round-trip`: an export, loaded into whatever words stand at the same start, as many, makes them the words that were exported
 abbrev pub RoundTrip : Type 0
@@ -31,9 +31,9 @@ ExportLength = (start : ℕ) (words : List ℕ) → length words ≤ 16384 → l
 abbrev pub RefusedUnchanged : Type 0
 RefusedUnchanged = (start : ℕ) (words text : List ℕ) → (loadOf start words text .code ≡ done → ⊥) → loadOf start words text .words ≡ words
 
--- `reads-records`: what the reader takes for a record with a right sum is to the letter the text of one: the record that has the
--- kind, offset and content that were read. So no other text is taken, and nothing of it is passed over.
+-- `reads-records`: what the reader takes for a record, no code applying to it, is to the letter the text of one: the record that has
+-- the kind, offset and content that were read. So no other text is taken, and nothing of it is passed over.
 abbrev pub ReadsRecords : Type 0
 ReadsRecords =
-    (text : List ℕ) → isRecord text ≡ true → totalIn text % 256 ≡ 0
+    (start words upper : ℕ) (text : List ℕ) → recordCode start words upper text ≡ done
     → text ≡ textOf (record { kind = kindIn text; offset = offsetIn text; content = contentIn text }) ++ restOf text
