@@ -175,10 +175,12 @@ static bool any_record(struct hexmake *f, struct line *l)
 static void any_digit(struct hexmake *f, bool right)
 {
     struct line l;
+    uint8_t *digit;
 
     if (!any_record(f, &l))
         return;
-    put_hex(l.at + 1 + below((uint32_t)l.length - 1), below(16), 1);
+    digit = l.at + 1 + below((uint32_t)l.length - 1);
+    put_hex(digit, below(16), 1);
     if (right)
         right_sum(l);
 }
