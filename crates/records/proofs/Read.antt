@@ -11,6 +11,7 @@ use Rattle.hex.specs.Hex.{allDigits}
 use Rattle.eight.specs.Packed.{Each}
 use Rattle.records.specs.Record.{Record, total, front, check, allBytes, hexes, textOf}
 use Rattle.records.specs.Load.{bytesIn, byteIn, bytesAt, countIn, offsetIn, kindIn, contentIn, totalIn, restOf, isKind, isRecord}
+use Rattle.records.specs.Promises.{Taken, TakesRecords}
 use Rattle.records.proofs.Bytes.{below-append, bytes-in, hexes-are, length-hexes, check-zero}
 
 -- a record that can be written
@@ -102,3 +103,14 @@ module _ (r : Record) (rest : List ℕ) (good : Good r) where
   unfolding isRecord
   record-is =
       rw (count-is, kind-is, offset-is, lt-ltb (2 * length (r .content) + 10 + 1) (length (textOf r ++ rest)) (rw (length-append, length-text r) (omega arith)), begins-so, digits-so, ends-so, good .typed)
+
+  pub taken : Taken r rest
+  taken = (record-is, total-is, kind-is, offset-is, content-is, rest-is)
+
+pub takes-records : TakesRecords
+unfolding isKind
+takes-records rest = (
+  λ o bs h n e. taken _ rest (record { few = n; low = h; typed = refl; named = omega arith; whole = e }),
+  taken _ rest (record { few = omega arith; low = omega arith; typed = refl; named = omega arith; whole = tt }),
+  λ a b h k. taken _ rest (record { few = omega arith; low = omega arith; typed = refl; named = omega arith; whole = (h, (k, tt)) }),
+)

@@ -1,15 +1,15 @@
 -- What is promised of exports and loads (document 02, Ask 7).
-use Prim.Native.Nat.{ℕ, _^_, _<_, _≤_}
+use Prim.Native.Nat.{ℕ, _%_, _^_, _<_, _≤_}
 use mathlib.Core.Path.{_≡_}
-use mathlib.Core.Bool.{false}
-use mathlib.Core.List.{List, _++_}
+use mathlib.Core.Bool.{true, false}
+use mathlib.Core.List.{List, [], _∷_, _++_}
 use lib.ListN.{length}
 use Rattle.machine.specs.Codes.{done}
 use Rattle.machine.specs.Window.{isWindowOutOfForm}
 use Rattle.eight.specs.Packed.{Each}
 use Rattle.records.specs.Record.{Record, textOf}
 use Rattle.records.specs.Export.{exportOf, exportLength}
-use Rattle.records.specs.Load.{kindIn, offsetIn, contentIn, restOf, recordCode, loadOf}
+use Rattle.records.specs.Load.{kindIn, offsetIn, contentIn, totalIn, restOf, isRecord, recordCode, loadOf}
 
 -- `round-trip`: an export, loaded into whatever words stand at the same start, as many, makes them the words that were exported
 abbrev pub RoundTrip : Type 0
@@ -37,3 +37,17 @@ abbrev pub ReadsRecords : Type 0
 ReadsRecords =
     (start words upper : ℕ) (text : List ℕ) → recordCode start words upper text ≡ done
     → text ≡ textOf (record { kind = kindIn text; offset = offsetIn text; content = contentIn text }) ++ restOf text
+
+-- the text of a record is taken for that record, and what stands behind it is read on
+abbrev pub Taken : Record → List ℕ → Type 0
+Taken r rest =
+    let text = textOf r ++ rest in
+    (isRecord text ≡ true) × (totalIn text % 256 ≡ 0) × (kindIn text ≡ r .kind) × (offsetIn text ≡ r .offset) × (contentIn text ≡ r .content) × (restOf text ≡ rest)
+
+-- `takes-records`: so is each record of these types, whatever stands behind it: data of up to 255 bytes at any offset, the end, upper bits
+abbrev pub TakesRecords : Type 0
+TakesRecords =
+    (rest : List ℕ)
+    → ((offset : ℕ) (content : List ℕ) → offset < 65536 → length content < 256 → Each 256 content → Taken (record { kind = 0; offset = offset; content = content }) rest)
+    × Taken (record { kind = 1; offset = 0; content = [] }) rest
+    × ((a b : ℕ) → a < 256 → b < 256 → Taken (record { kind = 4; offset = 0; content = a ∷ b ∷ [] }) rest)
