@@ -1,8 +1,8 @@
 -- The loops that store the bytes of a record, and what they leave.
 --     split-bytes                    the bytes of digits in two parts
 --     parts-stored, whole-stored     bytes stored part by part
---     words-turn, words-done         a turn of the loop over words, and its end
---     digits-among, last-read        bytes read with digits ahead of them
+--     words-turn                     a turn of the loop over words
+--     digits-among                   digits with eight before them
 --     inside-window, run-stored      the bytes of a record in the window
 --     said-data, said-other, said-empty    what a record says
 use Prim.Native.Nat.{ℕ, _+_, _-_, _*_, _/_, _%_, _^_, _<_, _≤_}
@@ -11,7 +11,7 @@ use mathlib.Core.Bool.{Bool, true, false, true≢false, cond}
 use mathlib.Core.List.{List, [], _∷_, _++_}
 use native.Mathlib.Omega.{arith}
 use lib.ListN.{length, take, drop, set}
-use lib.Seq.{sets, drop-at}
+use lib.Seq.{sets}
 use lib.Dec.{ltb, eqb}
 use borrow.Author.Tests.{ltb-true, ltb-false, ne-eqb}
 use Rattle.laws.proofs.Stores.{sets-append}
@@ -20,7 +20,7 @@ use Rattle.records.specs.Window.{windowBytes, bytePlace}
 use Rattle.records.specs.Load.{bytesIn, bytesAt, kindIn, countIn, addressIn, contentIn, allInside, run, saidBy, stored}
 use Rattle.records.proofs.Promises.{run-same, stored-run}
 use Rattle.hex_load.proofs.Words.{set-quad, place-back, one-outside}
-use Rattle.hex_load.proofs.Sums.{take-split, take-eight, all-part, in-append, in-long, there}
+use Rattle.hex_load.proofs.Sums.{take-split, take-eight, all-part, in-append, there, many-read}
 
 -- the bytes of 2 (m + n) digits, from a place on
 module _ (s : List ℕ) (from m n : ℕ) (fits : from + 2 * (m + n) ≤ length s) where
@@ -36,7 +36,7 @@ module _ (s : List ℕ) (from m n : ℕ) (fits : from + 2 * (m + n) ≤ length s
       rw (e, take-split (2 * m) (2 * n) from s) (in-append m (take (2 * m) (drop from s)) (take (2 * n) (drop (from + 2 * m) s)) (there (2 * m) from s (omega arith)))
 
   length-first : length first ≡ m
-  length-first = in-long m (take (2 * m) (drop from s)) (there (2 * m) from s (omega arith))
+  length-first = many-read s from m (omega arith)
 
   -- stored one part after the other
   pub split-bytes : (w : List ℕ) (p : ℕ) → sets w p (bytesIn (take (2 * (m + n)) (drop from s))) ≡ sets (sets w p first) (p + m) second
@@ -62,11 +62,6 @@ module _ (s : List ℕ) (from m k : ℕ) (more : k < m) (w : List ℕ) where
       let word = set-quad w (i + k) r _ _ _ _ there (is ∙ ap bytesIn here) in
       rw e (split-bytes s (from + 8 * k) 4 (4 * (m - (k + 1))) (omega arith) (windowBytes w) (4 * (i + k)) ∙ rw (f, next, place, here, word))
 
--- no digits are left
-pub words-done : (s : List ℕ) (from m k p : ℕ) (w : List ℕ) → m ≤ k → sets w p (bytesIn (take (8 * (m - k)) (drop from s))) ≡ w
-unfolding bytesIn
-words-done s from m k p w h = let e : 8 * (m - k) ≡ 0 = omega arith in rw e
-
 -- the last bytes of a word, and words behind it
 pub whole-stored : (s : List ℕ) (from k m p : ℕ) (w : List ℕ) → (p + k) % 4 ≡ 0 → from + 2 * (k + 4 * m) ≤ length s
     → sets (sets w p (bytesIn (take (2 * k) (drop from s)))) (4 * ((p + k) / 4)) (bytesIn (take (8 * m) (drop (from + 2 * k) s))) ≡ sets w p (bytesIn (take (2 * (k + 4 * m)) (drop from s)))
@@ -75,30 +70,14 @@ whole-stored s from k m p w h fits =
     let f : 8 * m ≡ 2 * (4 * m) = omega arith in
     rw (e, f) (sym (split-bytes s from k (4 * m) fits w p))
 
-pub none-stored : (s : List ℕ) (from n p : ℕ) (w : List ℕ) → n ≡ 0 → sets w p (bytesIn (take (2 * n) (drop from s))) ≡ w
+-- no digits
+pub none-stored : (s : List ℕ) (from n p : ℕ) (w : List ℕ) → n ≡ 0 → sets w p (bytesIn (take n (drop from s))) ≡ w
 unfolding bytesIn
 none-stored s from n p w e = rw e
-
--- ---- bytes read with digits ahead of them
 
 -- digits among 2 n and the eight before them
 pub digits-among : (s : List ℕ) (from n i m at : ℕ) → 8 ≤ from → at ≡ from - 8 + i → i + m ≤ 8 + 2 * n → allDigits (take (8 + 2 * n) (drop (from - 8) s)) ≡ true → allDigits (take m (drop at s)) ≡ true
 digits-among s from n i m at h e fits all = rw e (all-part i m (8 + 2 * n) (from - 8) s fits all)
-
--- the last n of four bytes are those of the last 2 n of eight digits
-pub last-read : (s : List ℕ) (from n : ℕ) → n ≤ 4 → 8 ≤ from → from + 2 * n ≤ length s → drop (4 - n) (bytesIn (take 8 (drop (from + 2 * n - 8) s))) ≡ bytesIn (take (2 * n) (drop from s))
-last-read s from n few h fits =
-    let at = from + 2 * n - 8 in
-    let ahead = take (8 - 2 * n) (drop at s) in
-    let e : 8 ≡ 8 - 2 * n + 2 * n = omega arith in
-    let f : at + (8 - 2 * n) ≡ from = omega arith in
-    let parts : take 8 (drop at s) ≡ ahead ++ take (2 * n) (drop from s) = ap (λ (m : ℕ). take m (drop at s)) e ∙ take-split (8 - 2 * n) (2 * n) at s ∙ rw f in
-    let even : length ahead ≡ 2 * (4 - n) = there (8 - 2 * n) at s (omega arith) ∙ omega arith in
-    rw (parts, in-append (4 - n) ahead (take (2 * n) (drop from s)) even) (drop-at (bytesIn ahead) (bytesIn (take (2 * n) (drop from s))) (4 - n) (in-long (4 - n) ahead even))
-
--- and how many they are
-pub many-read : (s : List ℕ) (from n : ℕ) → from + 2 * n ≤ length s → length (bytesIn (take (2 * n) (drop from s))) ≡ n
-many-read s from n fits = in-long n (take (2 * n) (drop from s)) (there (2 * n) from s fits)
 
 -- ---- in the window
 

@@ -1,11 +1,12 @@
 -- Laws of digits read many at once.
---     take-eight, take-split, all-part     the digits at a place, one by one and in parts
+--     take-eight, take-split, all-part               the digits at a place, one by one and in parts
 --     joined-none, joined-some                       a sum over digits joined
 --     said-bytes, quad-none, quad-some               what is read of eight digits: the bytes that they stand for
 --     Parts, parts-of, parts-add, parts-total        four sums in one number
 --     quad-turn                                      a turn of the loop over quads
+--     last-digits, last-read, last-alone             the last of eight digits
 --     ending-none, ending-bytes, ending-sum          a record's last bytes, read with digits ahead of them
-use Prim.Native.Nat.{ℕ, zero, suc, _+_, _-_, _*_, _/_, _%_, _^_, _<_, _≤_}
+use Prim.Native.Nat.{ℕ, suc, _+_, _-_, _*_, _/_, _%_, _^_, _<_, _≤_}
 use mathlib.Core.Path.{_≡_, refl, sym, ap, _∙_}
 use mathlib.Core.Bool.{Bool, true, false, true≢false, cond, _&&_}
 use mathlib.Core.List.{List, [], _∷_, _++_}
@@ -13,7 +14,7 @@ use native.Mathlib.Nat.{add-zero, add-assoc, sub-zero, div-one}
 use native.Mathlib.Omega.{arith}
 use lib.ListN.{length, getD, take, drop, length-drop}
 use lib.Pow.{shr-shr}
-use lib.Seq.{drop-cons, drop-drop, length-take-le}
+use lib.Seq.{take-add, drop-cons, drop-drop, drop-at, length-take-le}
 use lib.Dec.{ltb, lit<}
 use Rattle.laws.proofs.Below.{both}
 use Rattle.hex.specs.Hex.{digitNumber, allDigits, number, digitOf, digits}
@@ -33,15 +34,6 @@ use Rattle.hex_load.proofs.Words.{bytes-packed}
 
 pub take-more : (n : ℕ) (s : List ℕ) (i : ℕ) → i < length s → take (suc n) (drop i s) ≡ getD s i 0 ∷ take n (drop (i + 1) s)
 take-more n s i h = let e : i + 1 ≡ suc i = omega arith in rw (e, drop-cons s i 0 h)
-
-take-nothing : (n : ℕ) → take {A = ℕ} n [] ≡ []
-take-nothing zero = refl
-take-nothing (suc n) = refl
-
-pub take-add : (m n : ℕ) (s : List ℕ) → take (m + n) s ≡ take m s ++ take n (drop m s)
-take-add zero n s = let e : 0 + n ≡ n = omega arith in rw e
-take-add (suc m) n [] = let e : suc m + n ≡ suc (m + n) = omega arith in rw (e, take-nothing n)
-take-add (suc m) n (x ∷ s) = let e : suc m + n ≡ suc (m + n) = omega arith in rw (e, take-add m n s)
 
 pub take-split : (m n i : ℕ) (s : List ℕ) → take (m + n) (drop i s) ≡ take m (drop i s) ++ take n (drop (i + m) s)
 take-split m n i s = take-add m n (drop i s) ∙ rw (drop-drop m i s)
@@ -83,10 +75,6 @@ module _ (sum m : ℕ) (xs ys : List ℕ) (even : length xs ≡ 2 * m) where
       by : (t : Bool) → cond (t && true) (sum + total (bytesIn ys) + total (bytesIn xs)) none ≡ cond t (sum + total (bytesIn ys) + total (bytesIn xs)) none
       by true = refl
       by false = refl
-
-pub summed : (sum : ℕ) (xs : List ℕ) → allDigits xs ≡ true → sumFrom sum xs ≡ sum + total (bytesIn xs)
-unfolding sumFrom
-summed sum xs e = rw e
 
 pub not-summed : (sum : ℕ) (xs : List ℕ) → allDigits xs ≡ false → sumFrom sum xs ≡ none
 unfolding sumFrom
@@ -288,6 +276,10 @@ module _ (sum from m : ℕ) (text : List ℕ) where
 pub there : (n i : ℕ) (s : List ℕ) → i + n ≤ length s → length (take n (drop i s)) ≡ n
 there n i s h = length-take-le n (drop i s) (rw length-drop (omega arith))
 
+-- as many bytes as pairs of digits
+pub many-read : (s : List ℕ) (from n : ℕ) → from + 2 * n ≤ length s → length (bytesIn (take (2 * n) (drop from s))) ≡ n
+many-read s from n fits = in-long n (take (2 * n) (drop from s)) (there (2 * n) from s fits)
+
 -- eight digits that make four bytes
 four-total : (a b c d : ℕ) → a + b + c + d ≡ total (a ∷ b ∷ c ∷ d ∷ [])
 unfolding total
@@ -347,13 +339,47 @@ at-most-four (a ∷ b ∷ c ∷ []) e h = let f = four a b c 0 (e .0, (e .1 .0, 
 at-most-four (a ∷ b ∷ c ∷ d ∷ []) e h = let f = four a b c d e in (f .0, f .1 ∙ omega arith)
 at-most-four (a ∷ b ∷ c ∷ d ∷ f ∷ ys) e h = absurd (omega arith)
 
+-- of eight digits the last 2 r, which begin at a place
+module _ (s : List ℕ) (from r : ℕ) (few : r ≤ 4) (far : 8 ≤ from + 2 * r) (fits : from + 2 * r ≤ length s) where
+  abbrev eight-to : List ℕ
+  eight-to = take 8 (drop (from + 2 * r - 8) s)
+
+  abbrev ahead : List ℕ
+  ahead = take (8 - 2 * r) (drop (from + 2 * r - 8) s)
+
+  abbrev last : List ℕ
+  last = take (2 * r) (drop from s)
+
+  even : length ahead ≡ 2 * (4 - r)
+  even = there (8 - 2 * r) (from + 2 * r - 8) s (omega arith) ∙ omega arith
+
+  in-two : eight-to ≡ ahead ++ last
+  in-two =
+      let e : 8 ≡ 8 - 2 * r + 2 * r = omega arith in
+      let f : from + 2 * r - 8 + (8 - 2 * r) ≡ from = omega arith in
+      ap (λ (m : ℕ). take m (drop (from + 2 * r - 8) s)) e ∙ take-split (8 - 2 * r) (2 * r) (from + 2 * r - 8) s ∙ rw f
+
+  bytes-in-two : bytesIn eight-to ≡ bytesIn ahead ++ bytesIn last
+  bytes-in-two = ap bytesIn in-two ∙ in-append (4 - r) ahead last even
+
+  pub last-digits : allDigits eight-to ≡ true → allDigits last ≡ true
+  last-digits e = both (allDigits ahead) (allDigits last) (sym (all-append ahead last) ∙ ap allDigits (sym in-two) ∙ e) .1
+
+  pub last-read : drop (4 - r) (bytesIn eight-to) ≡ bytesIn last
+  last-read = rw bytes-in-two (drop-at (bytesIn ahead) (bytesIn last) (4 - r) (in-long (4 - r) ahead even))
+
+  pub last-alone : (q : ℕ) → q ≡ apart (bytesIn eight-to) → q / 2 ^ (64 - 16 * r) ≡ apart (bytesIn last)
+  last-alone q is =
+      let bits : 64 - 16 * r ≡ 16 * length (bytesIn ahead) = omega (arith, in-long (4 - r) ahead even) in
+      rw (is ∙ ap apart bytes-in-two, bits) (past (bytesIn ahead) (bytesIn last) (in-below ahead))
+
 -- the record at a place, of n bytes
 module _ (text : List ℕ) (at n : ℕ) where
-  abbrev head : List ℕ
+  abbrev pub head : List ℕ
   head = take 8 (drop (at + 1) text)
 
   -- the digits behind its first eight
-  abbrev tail : List ℕ
+  abbrev pub tail : List ℕ
   tail = take (2 * (n + 1)) (drop (at + 9) text)
 
   pub head-tail : take (2 * n + 10) (drop (at + 1) text) ≡ head ++ tail
@@ -379,46 +405,33 @@ module _ (text : List ℕ) (at n : ℕ) where
       by false a = a
       by true a = absurd (true≢false (sym (rw place at (all-part (2 * n + 2) 8 (2 * n + 10) (at + 1) text (omega arith) (digits-parts ∙ rw (h, a)))) ∙ e))
 
-  -- what is not read by quads: its last bytes, one to four
-  abbrev quads-read : List ℕ
-  quads-read = take (8 * (n / 4)) (drop (at + 9) text)
+  -- what is read by quads, and the last bytes, one to four
+  abbrev by-quads : List ℕ
+  by-quads = take (8 * (n / 4)) (drop (at + 9) text)
 
-  abbrev last : List ℕ
-  last = take (2 * (n % 4 + 1)) (drop (at + 9 + 8 * (n / 4)) text)
+  abbrev left : List ℕ
+  left = take (2 * (n % 4 + 1)) (drop (at + 9 + 8 * (n / 4)) text)
 
-  tail-is : tail ≡ quads-read ++ last
+  tail-is : tail ≡ by-quads ++ left
   tail-is = let e : 2 * (n + 1) ≡ 8 * (n / 4) + 2 * (n % 4 + 1) = omega arith in rw e (take-split (8 * (n / 4)) (2 * (n % 4 + 1)) (at + 9) text)
 
-  abbrev ahead : List ℕ
-  ahead = take (6 - 2 * (n % 4)) (drop (at + 3 + 2 * n) text)
-
-  ending-is : ending ≡ ahead ++ last
-  ending-is =
-      let e : 8 ≡ 6 - 2 * (n % 4) + 2 * (n % 4 + 1) = omega arith in
-      let f : at + 3 + 2 * n + (6 - 2 * (n % 4)) ≡ at + 9 + 8 * (n / 4) = omega arith in
-      ap (λ (m : ℕ). take m (drop (at + 3 + 2 * n) text)) e ∙ take-split (6 - 2 * (n % 4)) (2 * (n % 4 + 1)) (at + 3 + 2 * n) text ∙ rw f
+  place : at + 3 + 2 * n ≡ at + 9 + 8 * (n / 4) + 2 * (n % 4 + 1) - 8
+  place = omega arith
 
   module _ (fits : at + (2 * n + 12) ≤ length text) (all : allDigits ending ≡ true) (q : ℕ) (is : q ≡ apart (bytesIn ending)) where
-    long-ahead : length ahead ≡ 2 * (3 - n % 4)
-    long-ahead = there (6 - 2 * (n % 4)) (at + 3 + 2 * n) text (omega arith) ∙ omega arith
+    left-alone : q / 2 ^ (48 - 16 * (n % 4)) ≡ apart (bytesIn left)
+    left-alone =
+        let bits : 48 - 16 * (n % 4) ≡ 64 - 16 * (n % 4 + 1) = omega arith in
+        rw bits (last-alone text (at + 9 + 8 * (n / 4)) (n % 4 + 1) (omega arith) (omega arith) (omega arith) q (rw place at is))
 
-    long-last : length last ≡ 2 * (n % 4 + 1)
-    long-last = there (2 * (n % 4 + 1)) (at + 9 + 8 * (n / 4)) text (omega arith)
-
-    last-alone : q / 2 ^ (48 - 16 * (n % 4)) ≡ apart (bytesIn last)
-    last-alone =
-        let parts : q ≡ apart (bytesIn ahead ++ bytesIn last) = is ∙ ap (λ (l : List ℕ). apart (bytesIn l)) ending-is ∙ ap apart (in-append (3 - n % 4) ahead last long-ahead) in
-        let bits : 48 - 16 * (n % 4) ≡ 16 * length (bytesIn ahead) = omega (arith, in-long (3 - n % 4) ahead long-ahead) in
-        rw (parts, bits) (past (bytesIn ahead) (bytesIn last) (in-below ahead))
-
-    few : FourBytes (apart (bytesIn last)) × (partsSum (apart (bytesIn last)) ≡ total (bytesIn last))
-    few = at-most-four (bytesIn last) (in-below last) (omega (arith, in-long (n % 4 + 1) last long-last))
+    few : FourBytes (apart (bytesIn left)) × (partsSum (apart (bytesIn left)) ≡ total (bytesIn left))
+    few = at-most-four (bytesIn left) (in-below left) (omega (arith, many-read text (at + 9 + 8 * (n / 4)) (n % 4 + 1) (omega arith)))
 
     pub ending-bytes : FourBytes (q / 2 ^ (48 - 16 * (n % 4)))
-    ending-bytes = rw last-alone (few .0)
+    ending-bytes = rw left-alone (few .0)
 
-    pub ending-sum : (sum : ℕ) → sumFrom (sum + partsSum (q / 2 ^ (48 - 16 * (n % 4)))) quads-read ≡ sumFrom sum tail
+    pub ending-sum : (sum : ℕ) → sumFrom (sum + partsSum (q / 2 ^ (48 - 16 * (n % 4)))) by-quads ≡ sumFrom sum tail
     ending-sum sum =
-        let digits : allDigits last ≡ true = both (allDigits ahead) (allDigits last) (sym (all-append ahead last) ∙ ap allDigits (sym ending-is) ∙ all) .1 in
-        let even : length quads-read ≡ 2 * (4 * (n / 4)) = there (8 * (n / 4)) (at + 9) text (omega arith) ∙ omega arith in
-        rw (last-alone, few .1, tail-is) (sym (joined-last sum (4 * (n / 4)) quads-read last even digits))
+        let digits = last-digits text (at + 9 + 8 * (n / 4)) (n % 4 + 1) (omega arith) (omega arith) (omega arith) (rw place at all) in
+        let even : length by-quads ≡ 2 * (4 * (n / 4)) = there (8 * (n / 4)) (at + 9) text (omega arith) ∙ omega arith in
+        rw (left-alone, few .1, tail-is) (sym (joined-last sum (4 * (n / 4)) by-quads left even digits))

@@ -9,7 +9,6 @@ use lib.Dec.{leb, ltb, eqb}
 use native.Mathlib.Omega.{arith}
 use borrow.Author.Tests.{leb-true, ltb-true, eqb-true}
 use lib.ListN.{length, getD, length-append, List·getD-eq-default}
-use Rattle.machine.specs.declared.Answer.{Answer}
 use Rattle.laws.proofs.Below.{both, below, below-at}
 use Rattle.hex.proofs.Numbers.{length-digits}
 use Rattle.logline.specs.Labels.{english, german, labelSets, isSet, labelOf}

@@ -1,7 +1,7 @@
 -- What is promised of the labels of tools' refusals, and their lines.
 use Prim.Native.Nat.{ℕ, zero, suc, _+_, _-_, _≤_, _<_, zero-le}
 use mathlib.Core.Path.{_≡_, refl}
-use mathlib.Core.List.{List, [], _∷_, _++_}
+use mathlib.Core.List.{List, [], _∷_}
 use mathlib.Core.Bool.{Bool, true, false, cond}
 use native.Mathlib.Omega.{arith}
 use lib.Dec.{leb, ltb, eqb}
@@ -10,8 +10,8 @@ use lib.ListN.{length, getD, length-append, List·getD-eq-default}
 use Rattle.laws.proofs.Below.{below, below-at}
 use Rattle.hex.proofs.Numbers.{length-digits}
 use Rattle.logline.specs.Labels.{english, german, labelSets, isSet, labelOf}
-use Rattle.logline.specs.LogLine.{numbers, lineRoom}
-use Rattle.logline.specs.ToolLabels.{toolEnglish, toolGerman, toolSets, toolLabel, anyLabel, refusing, labelled, toolLine, toolLineIn, ToolLabelsShort, ToolLineFits, AnyLabelsDiffer}
+use Rattle.logline.specs.LogLine.{numbers}
+use Rattle.logline.specs.ToolLabels.{toolEnglish, toolGerman, toolSets, toolLabel, anyLabel, labelled, toolLine, toolLineIn, ToolLabelsShort, ToolLineFits, AnyLabelsDiffer}
 use Rattle.logline.proofs.Labels.{every, every-at}
 use Rattle.logline.proofs.Keys.{same, same-self}
 
@@ -92,11 +92,3 @@ tool-no-set set code h = by-code (ltb code 16)
     by-code : (t : Bool) → labelled code (cond t [] (getD (getD toolSets set []) (code - 16) [])) ≡ []
     by-code true = refl
     by-code false = rw (List·getD-eq-default toolSets [] h)
-
-pub tool-fits-in : (set : ℕ) (out : List ℕ) (code : ℕ) → length (toolLineIn set out code) ≤ 41
-unfolding toolLineIn
-tool-fits-in set out code = by-room (leb lineRoom (length out))
-  where
-    by-room : (t : Bool) → length (cond t (toolLine set code) []) ≤ 41
-    by-room true = tool-line-fits set code
-    by-room false = zero-le

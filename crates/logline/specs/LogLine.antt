@@ -1,5 +1,5 @@
 -- The log line of an answer.
-use Prim.Native.Nat.{ℕ, _+_, _*_, _%_}
+use Prim.Native.Nat.{ℕ, _+_}
 use mathlib.Core.List.{List, [], _++_}
 use mathlib.Core.Bool.{false, cond}
 use lib.ListN.{length}

@@ -2,18 +2,17 @@
 --     length-texts                     records joined
 --     records-long                     the records from an address on, of which so many bytes stand before the border and so many past it
 use Prim.Native.Nat.{ℕ, zero, suc, _+_, _-_, _*_, _/_, _%_, min, _<_, _≤_}
-use mathlib.Core.Path.{_≡_, refl, sym, ap, _∙_}
+use mathlib.Core.Path.{_≡_, refl, ap, _∙_}
 use mathlib.Core.Bool.{Bool, true, false, cond}
 use mathlib.Core.List.{List, [], _∷_, _++_}
 use native.Mathlib.Nat.{le-refl}
 use native.Mathlib.Omega.{arith}
-use native.Mathlib.Decide.{ℕ-discrete}
 use lib.ListN.{length, take, drop, length-append, length-drop}
 use lib.Seq.{length-take-le}
 use lib.Dec.{eqb, ltb}
 use borrow.Author.Tests.{eq-eqb, ne-eqb, ltb-true, ltb-false}
 use Rattle.records.specs.Window.{windowBytes}
-use Rattle.records.specs.Record.{Record, textOf, texts}
+use Rattle.records.specs.Record.{Record, texts}
 use Rattle.records.specs.Export.{upperOf, upperRecord, dataRecord, endRecord, changed, cut, recordsFrom, recordsOf, exportOf, exportLength}
 use Rattle.records.specs.Promises.{ExportLength}
 use Rattle.records.proofs.Bytes.{length-bytes}
@@ -55,9 +54,6 @@ other-some s h = rw (ne-eqb s 0 (λ e. omega arith))
 abbrev long : ℕ → ℕ → ℕ → ℕ → ℕ
 long upper a first second =
     cond (eqb (first + second) 0) 0 (length (texts (changed upper (upperOf a)))) + (2 * (first + second) + 12 * ((first + 15) / 16 + (second + 15) / 16)) + other second
-
-long-none : (upper a : ℕ) → long upper a 0 0 ≡ 0
-long-none upper a = refl
 
 long-some : (upper a first second : ℕ) → 0 < first
     → long upper a first second ≡ length (texts (changed upper (upperOf a))) + (2 * (first + second) + 12 * ((first + 15) / 16 + (second + 15) / 16)) + other second

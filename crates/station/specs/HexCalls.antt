@@ -8,10 +8,10 @@ use lib.ListN.{length, drop}
 use Rattle.machine.specs.Window.{isWindowOutOfForm}
 use Rattle.records.specs.Window.{windowBytes, windowWords}
 use Rattle.records.specs.Export.{exportOf, exportLength}
-use Rattle.records.specs.Load.{Load, codeFrom, said, stored, loadOf}
+use Rattle.records.specs.Load.{codeFrom, said, stored, loadOf}
 use Rattle.hex_export.specs.declared.Exported.{Exported}
 use Rattle.hex_export.specs.declared.Exported.the-variants.{Written, Refused}
-use Rattle.hex_export.specs.Results.{Export, lengthOf, exportedTo}
+use Rattle.hex_export.specs.Results.{lengthOf, exportedTo}
 
 -- a code with a minus, 0 for 0: -2 is `negsuc 1`
 abbrev pub minusCode : ℕ → ℤ

@@ -1,5 +1,4 @@
 use mathlib.Core.List.{append-nil}
-use mathlib.Core.Path.{_∙_, sym}
 use native.Mathlib.Omega.{arith}
 use Rattle.records.specs.Record.{hexes}
 use Rattle.logline.proofs.Stores.{wrote-then}

@@ -1,5 +1,4 @@
 use mathlib.Core.Path.{_∙_}
-use native.Mathlib.Omega.{arith}
 use borrow.Author.Needs.{needs}
 use Rattle.hex_export.proofs.put_word.Statement.{statement}
 use Rattle.hex_export.proofs.put_word.Tie as tie

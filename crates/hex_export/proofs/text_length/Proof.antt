@@ -1,5 +1,4 @@
-use Prim.Native.Nat.{_*_, _-_, _+_}
-use native.Mathlib.Omega.{arith}
+use Prim.Native.Nat.{_-_}
 use Rattle.records.specs.Export.{exportLength}
 use borrow.Author.Needs.{needs}
 use Rattle.hex_export.proofs.text_length.Statement.{statement}

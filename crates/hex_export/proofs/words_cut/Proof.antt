@@ -1,4 +1,4 @@
-use mathlib.Core.Path.{_≡_, _∙_}
+use mathlib.Core.Path.{_≡_}
 use Prim.Native.Nat.{ℕ, _*_, _/_, _%_, _-_, min}
 use native.Mathlib.Omega.{arith}
 use Rattle.records.specs.Export.{cut}

@@ -6,7 +6,7 @@ use lib.ListN.{length, take, drop}
 use Rattle.records.specs.Window.{windowBytes}
 use Rattle.records.specs.Load.{bytesIn, byteIn, kindIn, addressIn, stored}
 use Rattle.records.proofs.Exactly.{byte-low}
-use Rattle.hex_load.proofs.Sums.{in-long, there}
+use Rattle.hex_load.proofs.Sums.{many-read}
 use Rattle.hex_load.proofs.Records.{head-parts, code-says, record-fits, digits-among-head, content-bytes}
 use Rattle.hex_load.proofs.Stores.{inside-window, run-stored, said-data, said-other, said-empty}
 use borrow.Author.Needs.{needs}
@@ -87,7 +87,7 @@ returns c =
     let says = code-says (a .start) (length (now (a .memory))) (a .upper) t (s .pre .0) in
     let fits = record-fits (now (a .text)) (a .at) (says .0) in
     let bs = bytesIn (take (2 * byteIn t 0) (drop (a .at + 9) (now (a .text)))) in
-    let long = in-long (byteIn t 0) (take (2 * byteIn t 0) (drop (a .at + 9) (now (a .text)))) (there (2 * byteIn t 0) (a .at + 9) (now (a .text)) (omega (arith, fits))) in
+    let long = many-read (now (a .text)) (a .at + 9) (byteIn t 0) (omega (arith, fits)) in
     b .store-bytes .ensures
     ∙ rw (count-is n)
     (run-stored (a .start) (length (now (a .memory))) (addressIn (a .upper) t) (p .place .result) 0 (omega (arith, s .fits .start)) (rw (← address-is o) (p .place .ensures .0)) (windowBytes (now (a .memory))) bs (rw long (omega (arith, in-window p, count-is n, s .pre .3)))

@@ -7,7 +7,8 @@ use lib.ListN.{getD, take, drop}
 use Rattle.records.specs.Window.{windowBytes}
 use Rattle.records.specs.Load.{bytesIn}
 use Rattle.hex_load.proofs.Words.{within-bytes, set-part}
-use Rattle.hex_load.proofs.Stores.{digits-among, last-read, many-read}
+use Rattle.hex_load.proofs.Sums.{last-read, many-read}
+use Rattle.hex_load.proofs.Stores.{digits-among}
 use borrow.Author.Needs.{needs}
 use Rattle.hex_load.proofs.store_within.Statement.{statement}
 use Rattle.hex_load.proofs.store_within.Tie as tie
@@ -26,7 +27,7 @@ returns c =
     let a = s .args in
     let i = a .p / 4 in
     let bytes = bytesIn (take (2 * a .n) (drop (a .from) (now (a .text)))) in
-    let read : drop (4 - a .n) (windowBytes (w .word-at .result ∷ [])) ≡ bytes = ap (drop (4 - a .n)) (w .word-at .ensures) ∙ last-read (now (a .text)) (a .from) (a .n) (omega (arith, s .pre .0)) (s .pre .4) (s .pre .5) in
+    let read : drop (4 - a .n) (windowBytes (w .word-at .result ∷ [])) ≡ bytes = ap (drop (4 - a .n)) (w .word-at .ensures) ∙ last-read (now (a .text)) (a .from) (a .n) (omega (arith, s .pre .0)) (omega (arith, s .pre .4)) (s .pre .5) in
     let word = within-bytes (getD (now (a .memory)) i 0) (w .word-at .result) (c .joined2 .result) (omega (arith, w .word-at .ok)) (j .joined .result) (a .p % 4) (a .n) (s .pre .3) (s .pre .0) (j .joined .ensures) (c .joined2 .ensures) in
     let place : 4 * i + a .p % 4 ≡ a .p = omega arith in
     rw place at (set-part (now (a .memory)) i (c .joined2 .result) (a .p % 4) bytes (omega (arith, s .pre .1, s .pre .3)) (rw (many-read (now (a .text)) (a .from) (a .n) (s .pre .5)) (omega (arith, s .pre .0))) (rw read at word))

@@ -8,7 +8,7 @@ use lib.Seq.{sets}
 use Rattle.records.specs.Window.{windowBytes}
 use Rattle.records.specs.Load.{bytesIn}
 use Rattle.hex_load.proofs.Sums.{all-part}
-use Rattle.hex_load.proofs.Stores.{words-turn, words-done}
+use Rattle.hex_load.proofs.Stores.{words-turn, none-stored}
 use Rattle.hex_load.proofs.store_words.Statement.{statement}
 use Rattle.hex_load.proofs.store_words.Tie as tie
 
@@ -50,7 +50,7 @@ returns : tie.Need-returns Inv-loop μ-loop
 returns c =
     let l = c .before in
     let a = l .before .before .before .args in
-    sym (l .loop .inv .2 ∙ words-done (now (a .text)) (a .from + 8 * l .loop .k) (a .m) (l .loop .k) (4 * (a .i + l .loop .k)) (windowBytes (l .loop .memory)) (c .loop-test .left))
+    sym (l .loop .inv .2 ∙ none-stored (now (a .text)) (a .from + 8 * l .loop .k) (8 * (a .m - l .loop .k)) (4 * (a .i + l .loop .k)) (windowBytes (l .loop .memory)) (omega (arith, c .loop-test .left)))
 
 pub store-words-spec : {M : Type 1} → statement M
 store-words-spec = tie.close (tie.spec Inv-loop μ-loop loop-holds (λ c. omega arith) (λ c. omega arith) word-at-requires (λ c. omega arith) (λ c. omega arith) (λ c. omega (arith, c .before .loop-test .taken, c .before .before .loop .inv .1, c .before .before .before .before .before .pre .0)) (λ c. omega arith) (λ c. omega arith) loop-again (λ c. c .before .loop .inv .1) returns)

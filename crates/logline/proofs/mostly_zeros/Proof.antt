@@ -1,4 +1,3 @@
-use mathlib.Core.Path.{refl}
 use Rattle.hex.specs.Hex.{hexDigits, digitOf, digits}
 use Rattle.eight.specs.Written.{bytesOf}
 use borrow.Author.Needs.{needs}

@@ -1,4 +1,3 @@
-use mathlib.Core.Path.{_≡_}
 use native.Mathlib.Omega.{arith}
 use Rattle.logline.specs.LogLine.{numbers}
 use Rattle.logline.proofs.Stores.{wrote-then}

@@ -1,5 +1,4 @@
 use Rattle.laws.proofs.Below.{none-below}
-use Prim.Native.Nat.{_+_}
 use Rattle.hex.specs.Hex.{hexDigits, digitOf, digits}
 use Rattle.logline.specs.LogLine.{numbers}
 use Rattle.logline.specs.ToolLabels.{toolEnglish, toolSets, toolLabel, labelled, toolLine}

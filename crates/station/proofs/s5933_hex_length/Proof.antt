@@ -1,7 +1,7 @@
 use mathlib.Core.Path.{_≡_, ap, _∙_}
 use mir.Syntax.{w64}
 use mir.Val.{toZ, ofZ}
-use Rattle.station.specs.HexCalls.{Fits, exportedNumber, lengthResult}
+use Rattle.station.specs.HexCalls.{exportedNumber, lengthResult}
 use Rattle.station.proofs.HexCalls.{length-fits}
 use borrow.Author.Needs.{needs}
 use Rattle.station.proofs.s5933_hex_length.Statement.{statement}
