@@ -24,28 +24,31 @@ trap 'stop 15' TERM
 # shellcheck disable=SC2016
 bound=(setpriv --pdeathsig KILL bash -p -c '[ "$PPID" = "$0" ] && exec "$@"' "$$")
 
-# ---- building: of the crates s5933_log and s5933_hex the programs, of station the archive
+# ---- building: the programs s5933_log and s5933_hex, and s5933, the archive of the C calls
 
-declare -A file=([s5933_log]=$target/bin/s5933_log [s5933_hex]=$target/bin/s5933_hex [station]=$target/staticlib/libstation.a)
-declare -A verb=([s5933_log]=check [s5933_hex]=check [station]=staticlib)
+# Of each its file, and the crates that rt makes it of.
+declare -A file=([s5933_log]=$target/bin/s5933_log [s5933_hex]=$target/bin/s5933_hex [s5933]=$target/staticlib/libs5933.a)
+declare -A made_of=([s5933_log]=s5933_log [s5933_hex]=s5933_hex [s5933]='station driver')
 
 # One sum over all sources.
 sum_of_sources() {
     (cd -- "$here" && find crates.txt crates/*/{src,specs,proofs} -type f -print0 | sort -z | xargs -0 sha256sum | sha256sum) 2>/dev/null
 }
 
-# unmade CRATE...: those whose file is missing, or was made of other sources: its mark, target/CRATE.sources, has their sum.
+# unmade NAME...: those whose file is missing, or was made of other sources: its mark, target/NAME.sources, has their sum.
 unmade() {
-    local crate sum
+    local name sum
     sum=$(sum_of_sources)
-    for crate; do
-        [ -s "${file[$crate]}" ] && [ "$(cat "$target/$crate.sources" 2>/dev/null)" = "$sum" ] || echo "$crate"
+    for name; do
+        [ -s "${file[$name]}" ] && [ "$(cat "$target/$name.sources" 2>/dev/null)" = "$sum" ] || echo "$name"
     done
 }
 
-# How many crates CRATE... are made of, themselves included and the kit's left out.
+# How many crates NAME... are made of, the kit's left out.
 count_crates() {
-    awk -F: -v names="$*" '/^[a-z]/ { uses[$1] = $2 }
+    local name names=''
+    for name; do names+=" ${made_of[$name]}"; done
+    awk -F: -v names="$names" '/^[a-z]/ { uses[$1] = $2 }
         END {
             n = split(names, todo, " ")
             for (i = 1; i <= n; i++) if (todo[i] in uses && !seen[todo[i]]++) {
@@ -85,20 +88,40 @@ run_rt() {
     started=()
 }
 
-# The mark comes last. For rt its stamp of a program stands for the program, even if that is lost.
-make_file() { # CRATE
+# For rt its stamp of a program stands for the program, even if that is lost.
+make_program() { # CRATE
+    [ -s "${file[$1]}" ] || rm -f -- "$target/stamp/$1"
+    run_rt check "$1"
+}
+
+# rt compiles each crate by itself, so that no function has callers in both, and archives its object; the kit's llvm-ar puts the objects
+# into one archive, the same bytes for the same objects.
+make_archive() { # NAME
+    local crate archives=() new=${file[$1]}.new
+    for crate in ${made_of[$1]}; do
+        run_rt staticlib "$crate"
+        archives+=("$target/staticlib/lib$crate.a")
+    done
+    rm -f -- "$new"
+    { "$(kit_tools)/bin/llvm-ar" qcLsD "$new" "${archives[@]}" && mv -f -- "$new" "${file[$1]}"; } || die 2 "could not make ${file[$1]}"
+}
+
+# The mark comes last.
+make_file() { # NAME
     local sum
     sum=$(sum_of_sources)
     rm -f -- "$target/$1.sources"
-    [ "${verb[$1]}" != check ] || [ -s "${file[$1]}" ] || rm -f -- "$target/stamp/$1"
-    run_rt "${verb[$1]}" "$1"
+    case ${file[$1]} in
+        *.a) make_archive "$1" ;;
+        *) make_program "$1" ;;
+    esac
     [ -s "${file[$1]}" ] || die 2 "rt made no ${file[$1]}"
     echo "$sum" >"$target/$1.sources"
 }
 
 # Makes what is unmade. One call at a time; all that a build starts holds its lock.
-build() { # CRATE...
-    local crate todo
+build() { # NAME...
+    local name todo
     [ -n "$(unmade "$@")" ] || return 0
     command -v rt >/dev/null || die 2 "not built yet, and rt, of the Rattle kit, is not on the PATH"
     { mkdir -p -- "$target" && exec 4>>"$target/s5933-log.lock"; } 2>/dev/null || die 2 "not built yet, and $target cannot be written"
@@ -111,7 +134,7 @@ build() { # CRATE...
     SECONDS=0
     mapfile -t todo < <(unmade "$@")
     crates=$(count_crates "${todo[@]}")
-    for crate in "${todo[@]}"; do make_file "$crate"; done
+    for name in "${todo[@]}"; do make_file "$name"; done
     exec 4>&-
 }
 

@@ -1,5 +1,6 @@
 /*
- * The S5933 model as the station service calls it. Link libstation.a (rt staticlib station), an x86-64 archive.
+ * The S5933 model as a station's service and a driver call it. Link libs5933.a, an x86-64 archive with all of the calls, which
+ * ./s5933-log --build makes; an installed copy has it by its former name, libstation.a, too.
  */
 #ifndef S5933_H
 #define S5933_H
@@ -12,7 +13,7 @@ extern "C" {
 #endif
 
 /* The version of the model, as ./s5933-log --version prints it. */
-#define S5933_VERSION "1.6"
+#define S5933_VERSION "1.7"
 
 /* The longest input, in bytes. */
 #define S5933_INPUT_MOST 1048576
@@ -157,8 +158,8 @@ static inline int64_t s5933_number(const uint8_t *line, size_t at, size_t digits
  * uses at most 20 KiB of stack, as measured.
  *
  * So an input cannot be cut in two calls: the second would begin from reset. A station that goes on past S5933_INPUT_MOST bytes
- * keeps the log program as a child and talks to it over pipes; that has no limit and keeps its state (README.md, "For weeks";
- * examples/child).
+ * makes its steps on a controller that it keeps (s5933_step, below; examples/driver), or keeps the log program as a child and talks
+ * to it over pipes (README.md, "For weeks"; examples/child). Neither has a limit.
  *
  * The caller owes what C cannot say: the two pointers are not null, not even for a length of 0, each has as many bytes as its
  * length says, and the output overlaps neither the input nor anything that is in use elsewhere during the call.
@@ -214,6 +215,219 @@ int64_t s5933_hex_export(const uint32_t *words, size_t count, uint32_t start, ui
  * No word is changed where it refuses.
  */
 int64_t s5933_hex_load(uint32_t *words, size_t count, uint32_t start, const uint8_t *text, size_t text_length);
+
+/*
+ * A controller that the caller keeps, for a driver that makes one access at a time. It is words in the caller's memory. Zeros are a
+ * controller as it is after reset: a static one is ready, and s5933_init makes one of any words.
+ *
+ * The words and the host memory are all there is: nothing else is carried from call to call. Between two calls a controller may be
+ * copied, moved, saved and restored (s5933_save). In this version its words are, in this order: the 8 mailboxes, by offset; the 8
+ * places of the FIFO from PCI, and the 8 of the one from the Add-On; the marks of offset 34; INTCSR, MCSR and AINT, the bits held;
+ * read address, read count, head and fill of the FIFO from PCI; write address, write count, head and fill of the FIFO from the
+ * Add-On; the right of read cycles and that of write cycles to a burst, 0 or 1. The head is the place of the front word, modulo 8.
+ */
+enum { S5933_CONTROLLER_WORDS = 38 };
+
+typedef struct s5933_controller {
+    uint32_t word[S5933_CONTROLLER_WORDS];
+} s5933_controller;
+
+/* A host memory: so many words, which are the caller's, from a start address on. It may wrap. */
+typedef struct s5933_window {
+    uint32_t *words;
+    size_t count;
+    uint32_t start;
+} s5933_window;
+
+/*
+ * What a step answers: what its log line has, and the marks that it changed, which no log shows: of a done access of a mailbox those
+ * bits of offset 34 that are others after it, of any other step none. The lines are the host's and the card's, 0 or 1.
+ */
+typedef struct s5933_answer {
+    uint32_t code;
+    uint32_t address;
+    uint32_t data;
+    uint32_t enables;
+    uint32_t line;
+    uint32_t addon_line;
+    uint32_t changed;
+} s5933_answer;
+
+enum { S5933_ANSWER_WORDS = 7 };
+
+/* What s5933_step returns for an answer of another length. */
+#define S5933_NO_ANSWER (-1)
+
+/*
+ * One step on a controller, over a host memory of so many words from a start on: what a frame of these four numbers does, and for
+ * numbers that no frame can say what their codes tell. It leaves the answer in seven words, in the order of s5933_answer.
+ *
+ * Returns, whatever words, lengths and numbers it is given, the first that applies,
+ *   S5933_NO_ANSWER (-1) if the answer has not S5933_ANSWER_WORDS words; nothing is touched;
+ *   S5933_STATE_OUT_OF_FORM (1) if the words stand for no controller, for there are not S5933_CONTROLLER_WORDS of them or a right is
+ *     above 1, or for one that is out of form; the other six words of the answer are 0;
+ *   the code of the step, the answer's first word: S5933_DONE (0), or S5933_WINDOW_OUT_OF_FORM (2) to S5933_NO_MEMORY_THERE (13).
+ *
+ * A refusal, any code but S5933_DONE and S5933_NO_MEMORY_THERE, leaves every word of the controller and of the memory as it was. The
+ * memory is changed by a done write cycle alone, in one word.
+ *
+ * Threads may call at the same time, each with a controller, a memory and an answer that no other call has meanwhile. A call uses at
+ * most 1 KiB of stack, as measured. The caller owes what C cannot say, as above: no null pointer, not even for a length of 0, as many
+ * words as each length says, aligned as uint32_t is, and no overlap of controller, memory and answer.
+ */
+int64_t s5933_step(uint32_t *controller, size_t controller_words, uint32_t *memory, size_t memory_words, uint32_t start, uint32_t kind,
+                   uint32_t offset, uint32_t enables, uint32_t data, uint32_t *answer, size_t answer_words);
+
+/* A controller as it is after reset, whatever its words were; a step of kind S5933_CHIP_RESET refuses one that is out of form. */
+static inline void s5933_init(s5933_controller *controller)
+{
+    for (size_t at = 0; at < S5933_CONTROLLER_WORDS; at++)
+        controller->word[at] = 0;
+}
+
+/*
+ * The step with the types above. Without a window (NULL) the memory has no word, and a cycle that comes to it is answered by code 13.
+ * A window counts for every kind: one out of form is code 2. With no words its pointer may be null.
+ */
+static inline s5933_answer s5933_do(s5933_controller *controller, const s5933_window *window, uint32_t kind, uint32_t offset,
+                                    uint32_t enables, uint32_t data)
+{
+    uint32_t none = 0;
+    size_t count = window != NULL ? window->count : 0;
+    uint32_t *words = count != 0 ? window->words : &none;
+    uint32_t word[S5933_ANSWER_WORDS];
+    s5933_answer answer;
+
+    s5933_step(controller->word, S5933_CONTROLLER_WORDS, words, count, window != NULL ? window->start : 0, kind, offset, enables, data,
+               word, S5933_ANSWER_WORDS);
+    answer.code = word[0];
+    answer.address = word[1];
+    answer.data = word[2];
+    answer.enables = word[3];
+    answer.line = word[4];
+    answer.addon_line = word[5];
+    answer.changed = word[6];
+    return answer;
+}
+
+/* The kinds of steps by name. Of a read the data does not count, of cycles and a reset the kind alone does. */
+static inline s5933_answer s5933_pci_read(s5933_controller *controller, const s5933_window *window, uint32_t offset, uint32_t enables)
+{
+    return s5933_do(controller, window, S5933_PCI_READ, offset, enables, 0);
+}
+
+static inline s5933_answer s5933_pci_write(s5933_controller *controller, const s5933_window *window, uint32_t offset, uint32_t enables,
+                                           uint32_t data)
+{
+    return s5933_do(controller, window, S5933_PCI_WRITE, offset, enables, data);
+}
+
+static inline s5933_answer s5933_addon_read(s5933_controller *controller, const s5933_window *window, uint32_t offset, uint32_t enables)
+{
+    return s5933_do(controller, window, S5933_ADDON_READ, offset, enables, 0);
+}
+
+static inline s5933_answer s5933_addon_write(s5933_controller *controller, const s5933_window *window, uint32_t offset, uint32_t enables,
+                                             uint32_t data)
+{
+    return s5933_do(controller, window, S5933_ADDON_WRITE, offset, enables, data);
+}
+
+static inline s5933_answer s5933_write_cycle(s5933_controller *controller, const s5933_window *window)
+{
+    return s5933_do(controller, window, S5933_WRITE_CYCLE, 0, 0, 0);
+}
+
+static inline s5933_answer s5933_read_cycle(s5933_controller *controller, const s5933_window *window)
+{
+    return s5933_do(controller, window, S5933_READ_CYCLE, 0, 0, 0);
+}
+
+static inline s5933_answer s5933_chip_reset(s5933_controller *controller, const s5933_window *window)
+{
+    return s5933_do(controller, window, S5933_CHIP_RESET, 0, 0, 0);
+}
+
+/*
+ * A controller as bytes, to be taken up again after a restart, on any machine: S5933_SAVED_MAGIC, in 8 bytes the text of
+ * S5933_VERSION with zeros behind it, the controller's words, and the CRC-32 of all these bytes, as gzip has it. Each word is 4 bytes,
+ * the lowest first.
+ *
+ * The host memory is the caller's to keep beside it, as it was between the same two calls.
+ *
+ * Only the version that saved a controller restores it: another one may answer steps otherwise, and so may have left a state that
+ * this one cannot reach.
+ */
+#define S5933_SAVED_MAGIC UINT32_C(0x33393553)
+enum { S5933_SAVED_VERSION_BYTES = 8, S5933_SAVED_BYTES = 4 + S5933_SAVED_VERSION_BYTES + 4 * S5933_CONTROLLER_WORDS + 4 };
+
+/* What s5933_restore returns where it refuses. */
+#define S5933_NOT_SAVED (-1)
+#define S5933_OTHER_VERSION (-2)
+
+static inline void s5933_put_word(uint8_t *bytes, uint32_t word)
+{
+    for (unsigned at = 0; at < 4; at++)
+        bytes[at] = (uint8_t)(word >> 8 * at & 0xFF);
+}
+
+static inline uint32_t s5933_get_word(const uint8_t *bytes)
+{
+    return bytes[0] | (uint32_t)bytes[1] << 8 | (uint32_t)bytes[2] << 16 | (uint32_t)bytes[3] << 24;
+}
+
+/* The CRC-32 of so many bytes. */
+static inline uint32_t s5933_crc(const uint8_t *bytes, size_t length)
+{
+    uint32_t crc = 0xFFFFFFFF;
+
+    for (size_t at = 0; at < length; at++) {
+        crc ^= bytes[at];
+        for (unsigned bit = 0; bit < 8; bit++)
+            crc = crc >> 1 ^ (UINT32_C(0xEDB88320) & (0 - (crc & 1)));
+    }
+    return ~crc;
+}
+
+/* A byte of the version's text as it is saved. */
+static inline uint8_t s5933_version_byte(size_t at)
+{
+    return (uint8_t)(at < sizeof S5933_VERSION ? S5933_VERSION[at] : 0);
+}
+
+static inline void s5933_save(const s5933_controller *controller, uint8_t bytes[S5933_SAVED_BYTES])
+{
+    s5933_put_word(bytes, S5933_SAVED_MAGIC);
+    for (size_t at = 0; at < S5933_SAVED_VERSION_BYTES; at++)
+        bytes[4 + at] = s5933_version_byte(at);
+    for (size_t at = 0; at < S5933_CONTROLLER_WORDS; at++)
+        s5933_put_word(bytes + 4 + S5933_SAVED_VERSION_BYTES + 4 * at, controller->word[at]);
+    s5933_put_word(bytes + S5933_SAVED_BYTES - 4, s5933_crc(bytes, S5933_SAVED_BYTES - 4));
+}
+
+/*
+ * Returns, the first that applies,
+ *   S5933_NOT_SAVED (-1) if the bytes are too few, or have another magic number, or another sum at their end than theirs;
+ *   S5933_OTHER_VERSION (-2) if another version saved them, be its controller longer or shorter;
+ *   S5933_NOT_SAVED (-1) if they are not S5933_SAVED_BYTES;
+ *   0 (S5933_DONE), and the controller is the one that was saved, word for word.
+ *
+ * No word is changed where it refuses.
+ */
+static inline int s5933_restore(s5933_controller *controller, const uint8_t *bytes, size_t length)
+{
+    if (length < 4 + S5933_SAVED_VERSION_BYTES + 4 || s5933_get_word(bytes) != S5933_SAVED_MAGIC
+        || s5933_get_word(bytes + length - 4) != s5933_crc(bytes, length - 4))
+        return S5933_NOT_SAVED;
+    for (size_t at = 0; at < S5933_SAVED_VERSION_BYTES; at++)
+        if (bytes[4 + at] != s5933_version_byte(at))
+            return S5933_OTHER_VERSION;
+    if (length != S5933_SAVED_BYTES)
+        return S5933_NOT_SAVED;
+    for (size_t at = 0; at < S5933_CONTROLLER_WORDS; at++)
+        controller->word[at] = s5933_get_word(bytes + 4 + S5933_SAVED_VERSION_BYTES + 4 * at);
+    return S5933_DONE;
+}
 
 #ifdef __cplusplus
 }

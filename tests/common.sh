@@ -24,7 +24,10 @@ loader=("${emulator[@]}" "$tools/lib/ld-linux-x86-64.so.2" --library-path "$tool
 # shellcheck disable=SC2034
 program=target/bin/s5933_log
 # shellcheck disable=SC2034
-archive=target/staticlib/libstation.a
+archive=target/staticlib/libs5933.a
+# The calls in it, sorted.
+# shellcheck disable=SC2034
+c_calls=(s5933_hex_export s5933_hex_length s5933_hex_load s5933_log s5933_step)
 
 passed=0
 failed=0

@@ -8,6 +8,11 @@ static_assert(S5933_FRAME_DIGITS == 2 + 2 + 1 + 8, "a frame");
 static_assert(S5933_PCI_READ == 0 && S5933_PCI_WRITE == 1 && S5933_ADDON_READ == 2 && S5933_ADDON_WRITE == 3, "the accesses");
 static_assert(S5933_AINT == S5933_INTCSR && S5933_AGCSTS == S5933_MCSR, "the Add-On side's own");
 static_assert(S5933_WRITE_CYCLE == 4 && S5933_READ_CYCLE == 5 && S5933_CHIP_RESET == 6, "the other kinds");
+static_assert(S5933_CONTROLLER_WORDS == 38 && sizeof(s5933_controller) == 4 * S5933_CONTROLLER_WORDS, "a controller");
+static_assert(S5933_ANSWER_WORDS == 7 && S5933_NO_ANSWER == -1, "an answer");
+static_assert(S5933_SAVED_BYTES == 168 && S5933_SAVED_VERSION_BYTES == 8 && S5933_SAVED_MAGIC == 0x33393553, "what is saved");
+static_assert(sizeof S5933_VERSION <= S5933_SAVED_VERSION_BYTES, "a version has room");
+static_assert(S5933_NOT_SAVED == -1 && S5933_OTHER_VERSION == -2, "what is not restored");
 
 int64_t call(const uint8_t *input, size_t n, uint8_t *output)
 {
@@ -18,4 +23,18 @@ int64_t there_and_back(uint32_t *words, size_t count, uint32_t start, uint8_t *o
 {
     int64_t n = s5933_hex_export(words, count, start, output, (size_t)s5933_hex_length(count, start));
     return n < 0 ? n : s5933_hex_load(words, count, start, output, (size_t)n);
+}
+
+uint32_t each_kind(s5933_controller *chip, const s5933_window *window)
+{
+    uint32_t codes = s5933_pci_read(chip, window, S5933_MCSR, 15).code | s5933_pci_write(chip, window, S5933_MCSR, 15, 0).code;
+    codes |= s5933_addon_read(chip, window, S5933_AGCSTS, 15).code | s5933_addon_write(chip, window, S5933_AINT, 15, 0).code;
+    return codes | s5933_write_cycle(chip, window).code | s5933_read_cycle(chip, window).code | s5933_chip_reset(chip, nullptr).code;
+}
+
+int saved_and_restored(s5933_controller *chip, uint8_t *bytes)
+{
+    s5933_save(chip, bytes);
+    s5933_init(chip);
+    return s5933_restore(chip, bytes, S5933_SAVED_BYTES);
 }

@@ -1,10 +1,10 @@
 /* stack.c: how many bytes of stack the C calls use.
  *
- *   stack hexcases.txt LOG_MOST HEX_MOST
+ *   stack hexcases.txt LOG_MOST HEX_MOST STEP_MOST
  *
- * Exit status 0 if s5933_log uses at most LOG_MOST under any set, and each
- * call on windows at most HEX_MOST, in the cases of the table and on
- * generated windows and files.
+ * Exit status 0 if s5933_log uses at most LOG_MOST under any set, each call
+ * on windows at most HEX_MOST, in the cases of the table and on generated
+ * windows and files, and s5933_step at most STEP_MOST on generated steps.
  *
  * Each call has a stack of its own, filled with a pattern; what it uses
  * reaches down to the lowest byte that one of its runs has changed. */
@@ -12,14 +12,16 @@
 #include "hexcall.h"
 #include "hexcases.h"
 #include "hexmake.h"
+#include "steps.h"
 
 #include <stdio.h>
 #include <stdlib.h>
 #include <string.h>
 #include <ucontext.h>
 
-enum { STACK_SIZE = 1 << 20, PATTERN = 0xA5, FILES = 2000 };
-enum { LOG = HEX_CALLS, NOTHING, STACKS };
+enum { STACK_SIZE = 1 << 20, PATTERN = 0xA5, FILES = 2000, WORDS = 16,
+       CHIPS = 20000 };
+enum { LOG = HEX_CALLS, STEP, NOTHING, STACKS };
 
 /* A frame of each kind, and a line that is none. */
 static const char frames[] =
@@ -29,6 +31,9 @@ static const char frames[] =
 static uint8_t output[FILE_ROOM];
 static uint32_t set;            /* of the labels */
 static struct hexcase given;    /* to a call on a window */
+static s5933_controller chip;   /* to a step */
+static uint32_t memory[WORDS], answer[S5933_ANSWER_WORDS];
+static struct step step;
 static int64_t returned;
 
 static void call_length(void)
@@ -54,6 +59,13 @@ static void call_log(void)
                          sizeof output, set);
 }
 
+static void call_step(void)
+{
+    returned = s5933_step(chip.word, S5933_CONTROLLER_WORDS, memory, WORDS, 0,
+                          step.kind, step.offset, step.enables, step.data,
+                          answer, S5933_ANSWER_WORDS);
+}
+
 static void call_nothing(void)
 {
 }
@@ -69,6 +81,7 @@ static struct {
     [HEX_EXPORT] = { "s5933_hex_export", call_export, { NULL, 0 } },
     [HEX_LOAD] = { "s5933_hex_load", call_load, { NULL, 0 } },
     [LOG] = { "s5933_log", call_log, { NULL, 0 } },
+    [STEP] = { "s5933_step", call_step, { NULL, 0 } },
     [NOTHING] = { "nothing", call_nothing, { NULL, 0 } }
 };
 
@@ -140,12 +153,25 @@ static void all_calls_on_files(void)
     }
 }
 
+/* Controllers in form and out of it, done steps and refused ones. */
+static void steps_on_controllers(void)
+{
+    for (int i = 0; i < CHIPS; i++) {
+        random_controller(chip.word, 0, WORDS);
+        if (below(16) == 0)
+            chip.word[below(S5933_CONTROLLER_WORDS)] = random32();
+        step = random_step(WORDS);
+        run(STEP);
+    }
+}
+
 int main(int argc, char **argv)
 {
     bool good;
 
-    if (argc != 4) {
-        fputs("usage: stack hexcases.txt LOG_MOST HEX_MOST\n", stderr);
+    if (argc != 5) {
+        fputs("usage: stack hexcases.txt LOG_MOST HEX_MOST STEP_MOST\n",
+              stderr);
         return 2;
     }
     guard_set_up("stack", 0);
@@ -158,8 +184,10 @@ int main(int argc, char **argv)
     if (!hexcases_hold(argv[1], holds))
         return 1;
     all_calls_on_files();
+    steps_on_controllers();
     printf("stack, in bytes:");
     good = uses_at_most(LOG, strtoul(argv[2], NULL, 10));
+    good = uses_at_most(STEP, strtoul(argv[4], NULL, 10)) && good;
     for (int call = 0; call < HEX_CALLS; call++)
         good = uses_at_most(call, strtoul(argv[3], NULL, 10)) && good;
     printf("\n");

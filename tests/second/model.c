@@ -66,6 +66,29 @@ uint32_t model_addon_line(const struct controller *c)
     return (events | a >> 21) & 1;
 }
 
+static bool same_fifo(const struct fifo *a, const struct fifo *b)
+{
+    size_t n = a->fill < FIFO_WORDS ? a->fill : FIFO_WORDS;
+
+    return a->fill == b->fill
+        && memcmp(a->word, b->word, n * sizeof a->word[0]) == 0;
+}
+
+bool model_same(const struct controller *a, const struct controller *b)
+{
+    return memcmp(a->mail, b->mail, sizeof a->mail) == 0
+        && a->marks == b->marks
+        && same_fifo(&a->to_addon, &b->to_addon)
+        && same_fifo(&a->to_pci, &b->to_pci)
+        && a->write_address == b->write_address
+        && a->write_count == b->write_count
+        && a->read_address == b->read_address
+        && a->read_count == b->read_count
+        && a->intcsr == b->intcsr && a->mcsr == b->mcsr
+        && a->aint == b->aint && a->write_right == b->write_right
+        && a->read_right == b->read_right;
+}
+
 static bool aborted(const struct controller *c)
 {
     return (c->intcsr & INTCSR_ABORT) != 0;

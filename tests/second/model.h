@@ -88,6 +88,9 @@ uint32_t model_line(const struct controller *c);
 /* The Add-On's interrupt line of the bits held, 0 or 1. */
 uint32_t model_addon_line(const struct controller *c);
 
+/* Whether two states are the same; of a FIFO the words held count. */
+bool model_same(const struct controller *a, const struct controller *b);
+
 /* Makes one step. Gives codes 0 to 13 for any numbers and any state. */
 struct answer model_step(struct controller *c, const struct window *w,
                          const struct step *s);

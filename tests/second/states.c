@@ -152,30 +152,6 @@ static bool take_case(char *line, struct test_case *t)
         && take_memory(t->field[MEMORY], t);
 }
 
-static bool same_fifo(const struct fifo *a, const struct fifo *b)
-{
-    size_t n = a->fill < FIFO_WORDS ? a->fill : FIFO_WORDS;
-
-    return a->fill == b->fill
-        && memcmp(a->word, b->word, n * sizeof a->word[0]) == 0;
-}
-
-static bool same_state(const struct controller *a,
-                       const struct controller *b)
-{
-    return memcmp(a->mail, b->mail, sizeof a->mail) == 0
-        && a->marks == b->marks
-        && same_fifo(&a->to_addon, &b->to_addon)
-        && same_fifo(&a->to_pci, &b->to_pci)
-        && a->write_address == b->write_address
-        && a->write_count == b->write_count
-        && a->read_address == b->read_address
-        && a->read_count == b->read_count
-        && a->intcsr == b->intcsr && a->mcsr == b->mcsr
-        && a->aint == b->aint && a->write_right == b->write_right
-        && a->read_right == b->read_right;
-}
-
 static bool memory_as_written(const struct test_case *t)
 {
     for (uint32_t i = 0; i < t->window.count; i++) {
@@ -201,7 +177,7 @@ static bool case_holds(struct test_case *t)
              model_label[ENGLISH][a.code]);
     snprintf(changed, sizeof changed, "%08X", (unsigned)a.changed);
     line_same = strcmp(line, t->field[LOG_LINE]) == 0;
-    state_same = same_state(&chip, &t->after);
+    state_same = model_same(&chip, &t->after);
     memory_same = memory_as_written(t);
     changed_same = strcmp(changed, t->field[CHANGED]) == 0;
     if (!line_same)

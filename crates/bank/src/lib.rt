@@ -1,8 +1,9 @@
-// A controller for a run of many steps: its numbers in a bank that goes by value, its three runs of words where they stand.
+// A controller as 38 words, one after the other: in an array, or in the memory of whoever keeps it. A bank has its numbers by value.
 ghost use mathlib.Core.Path.{_≡_};
-ghost use lib.ListN.{length};
+ghost use mathlib.Core.Bool.{true};
+ghost use lib.ListN.{length, getD};
 ghost use Rattle.controller.specs.Controller.{stateOf};
-ghost use Rattle.bank.specs.Bank.{stateIn};
+ghost use Rattle.bank.specs.Words.{oneIf, bankIn, stateOfWords, hasRights};
 use controller::ByteCount;
 use controller::Controller;
 use controller::Lane;
@@ -27,64 +28,77 @@ pub struct Bank {
     pub write_right: bool,
 }
 
-// The same numbers, copied one by one. Copied as a whole they are taken in pairs by the compiler, in other pairs elsewhere, and what it
-// cannot tell apart is stored and read again at every step.
-pub fn copied(b: Bank) -> Bank
-    ensures { λ r. ⌜ r ≡ b ⌝ }
+// How many words there are. From 0 on stand the mailbox words, by their offset / 4.
+pub const WORDS: usize = 38;
+
+// Where the places of the FIFO from PCI begin, and those of the FIFO from the Add-On.
+pub const PCI_AT: usize = 8;
+
+pub const ADDON_AT: usize = 16;
+
+// Where each number stands.
+pub const MARKS: usize = 24;
+
+pub const INTCSR: usize = 25;
+
+pub const MCSR: usize = 26;
+
+pub const AINT: usize = 27;
+
+pub const READ_ADDRESS: usize = 28;
+
+pub const READ_COUNT: usize = 29;
+
+pub const PCI_HEAD: usize = 30;
+
+pub const PCI_FILL: usize = 31;
+
+pub const WRITE_ADDRESS: usize = 32;
+
+pub const WRITE_COUNT: usize = 33;
+
+pub const ADDON_HEAD: usize = 34;
+
+pub const ADDON_FILL: usize = 35;
+
+pub const READ_RIGHT: usize = 36;
+
+pub const WRITE_RIGHT: usize = 37;
+
+// A right as a word.
+pub fn one_if(b: bool) -> u32
+    ensures { λ r. ⌜ r ≡ oneIf b ⌝ }
 {
-    Bank {
-        marks: b.marks,
-        intcsr: b.intcsr,
-        mcsr: b.mcsr,
-        aint: b.aint,
-        read_address: b.read_address,
-        read_count: ByteCount(b.read_count.0),
-        pci_head: b.pci_head,
-        pci_fill: WordFill(b.pci_fill.0),
-        write_address: b.write_address,
-        write_count: ByteCount(b.write_count.0),
-        addon_head: b.addon_head,
-        addon_fill: WordFill(b.addon_fill.0),
-        read_right: b.read_right,
-        write_right: b.write_right,
-    }
+    if b { 1 } else { 0 }
 }
 
-// The numbers of a controller, and its three runs of words: the mailbox words, the places of the FIFO from PCI and of the FIFO from the Add-On.
-pub fn bank_of(c: Controller) -> Bank
-    ensures { λ r. ⌜ stateIn r (c .mail) (c .«from_pci» .fifo .words) (c .«from_addon» .fifo .words) ≡ stateOf c ⌝ }
+// The word at a place, zero where there is none.
+fn number(words: &[u32], at: usize) -> u32
+    ensures { λ r. ⌜ r ≡ getD (now (words .entry)) at 0 ⌝ }
 {
-    let from_pci = c.from_pci;
-    let from_addon = c.from_addon;
-    let pci = from_pci.fifo;
-    let addon = from_addon.fifo;
-    let read_count = from_pci.count;
-    let pci_fill = pci.fill;
-    let write_count = from_addon.count;
-    let addon_fill = addon.fill;
-    Bank {
-        marks: c.marks,
-        intcsr: c.intcsr,
-        mcsr: c.mcsr,
-        aint: c.aint,
-        read_address: from_pci.address,
-        read_count,
-        read_right: from_pci.right,
-        pci_head: pci.head,
-        pci_fill,
-        write_address: from_addon.address,
-        write_count,
-        write_right: from_addon.right,
-        addon_head: addon.head,
-        addon_fill,
-    }
+    if at < words.len() { words[at] } else { 0 }
 }
 
-pub fn mail_of(c: Controller) -> [u32; 8]
-    ensures { λ r. ⌜ (r ≡ c .mail) × (length r ≡ 8) ⌝ }
+// The numbers among the words.
+pub fn bank_in(words: &[u32]) -> Bank
+    ensures { λ r. ⌜ r ≡ bankIn (now (words .entry)) ⌝ }
 {
-    let mail = c.mail;
-    mail
+    Bank {
+        marks: number(words, MARKS),
+        intcsr: number(words, INTCSR),
+        mcsr: number(words, MCSR),
+        aint: number(words, AINT),
+        read_address: number(words, READ_ADDRESS),
+        read_count: ByteCount(number(words, READ_COUNT)),
+        pci_head: number(words, PCI_HEAD),
+        pci_fill: WordFill(number(words, PCI_FILL)),
+        write_address: number(words, WRITE_ADDRESS),
+        write_count: ByteCount(number(words, WRITE_COUNT)),
+        addon_head: number(words, ADDON_HEAD),
+        addon_fill: WordFill(number(words, ADDON_FILL)),
+        read_right: number(words, READ_RIGHT) != 0,
+        write_right: number(words, WRITE_RIGHT) != 0,
+    }
 }
 
 fn places(f: Fifo) -> [u32; 8]
@@ -94,24 +108,100 @@ fn places(f: Fifo) -> [u32; 8]
     words
 }
 
-pub fn pci_of(c: Controller) -> [u32; 8]
-    ensures { λ r. ⌜ (r ≡ c .«from_pci» .fifo .words) × (length r ≡ 8) ⌝ }
+// The words of a controller.
+pub fn words_of(c: Controller) -> [u32; 38]
+    ensures { λ r. ⌜ (length r ≡ 38) × ((hasRights r ≡ true) × (stateOfWords r ≡ stateOf c)) ⌝ }
 {
-    let lane = c.from_pci;
-    places(lane.fifo)
+    let mail = c.mail;
+    let from_pci = c.from_pci;
+    let from_addon = c.from_addon;
+    let pci_fifo = from_pci.fifo;
+    let addon_fifo = from_addon.fifo;
+    let pci = places(pci_fifo);
+    let addon = places(addon_fifo);
+    let read_count = from_pci.count;
+    let write_count = from_addon.count;
+    let pci_fill = pci_fifo.fill;
+    let addon_fill = addon_fifo.fill;
+    let read_right = one_if(from_pci.right);
+    let write_right = one_if(from_addon.right);
+    [
+        mail[0],
+        mail[1],
+        mail[2],
+        mail[3],
+        mail[4],
+        mail[5],
+        mail[6],
+        mail[7],
+        pci[0],
+        pci[1],
+        pci[2],
+        pci[3],
+        pci[4],
+        pci[5],
+        pci[6],
+        pci[7],
+        addon[0],
+        addon[1],
+        addon[2],
+        addon[3],
+        addon[4],
+        addon[5],
+        addon[6],
+        addon[7],
+        c.marks,
+        c.intcsr,
+        c.mcsr,
+        c.aint,
+        from_pci.address,
+        read_count.0,
+        pci_fifo.head,
+        pci_fill.0,
+        from_addon.address,
+        write_count.0,
+        addon_fifo.head,
+        addon_fill.0,
+        read_right,
+        write_right,
+    ]
 }
 
-pub fn addon_of(c: Controller) -> [u32; 8]
-    ensures { λ r. ⌜ (r ≡ c .«from_addon» .fifo .words) × (length r ≡ 8) ⌝ }
+// The controller of these words.
+pub fn controller_of(words: [u32; 38]) -> Controller
+    ensures { λ r. ⌜ stateOf r ≡ stateOfWords words ⌝ }
 {
-    let lane = c.from_addon;
-    places(lane.fifo)
-}
-
-// The controller of which these are the numbers and the words.
-pub fn controller_of(b: Bank, mail: [u32; 8], pci: [u32; 8], addon: [u32; 8]) -> Controller
-    ensures { λ r. ⌜ stateOf r ≡ stateIn b mail pci addon ⌝ }
-{
+    let b = bank_in(&words);
+    let mail = [
+        words[0],
+        words[1],
+        words[2],
+        words[3],
+        words[4],
+        words[5],
+        words[6],
+        words[7],
+    ];
+    let pci = [
+        words[8],
+        words[9],
+        words[10],
+        words[11],
+        words[12],
+        words[13],
+        words[14],
+        words[15],
+    ];
+    let addon = [
+        words[16],
+        words[17],
+        words[18],
+        words[19],
+        words[20],
+        words[21],
+        words[22],
+        words[23],
+    ];
     let pci_fill = b.pci_fill;
     let addon_fill = b.addon_fill;
     let read_count = b.read_count;

@@ -1,12 +1,10 @@
 // A FIFO of eight 32-bit words: a ring, whose words stand from place `head` on, counted modulo 8. Freed places are used again.
 ghost use mathlib.Core.Path.{_≡_};
 ghost use mathlib.Core.Bool.{cond};
-ghost use mathlib.Core.List.{[], _∷_, _++_};
-ghost use Prim.Native.Nat.{suc, _+_, _-_, _%_, _<_};
+ghost use mathlib.Core.List.{[]};
+ghost use Prim.Native.Nat.{suc, _+_, _-_, _%_};
 ghost use lib.Dec.{eqb, leb, ltb};
-ghost use lib.ListN.{length, getD};
 ghost use Rattle.fifo.specs.Held.{held};
-ghost use Rattle.fifo.specs.Ring.{from};
 
 // A number of 32-bit words in a FIFO.
 pub struct WordFill(pub u32);
@@ -112,24 +110,13 @@ pub fn one_less(fill: WordFill) -> WordFill
     if n == 0 { WordFill(0) } else { WordFill(n - 1) }
 }
 
-// The fill when a command may have cleared the FIFO.
-pub fn left(clear: bool, fill: WordFill) -> WordFill
-    ensures { λ r. ⌜ r .0 ≡ cond clear 0 (fill .0) ⌝ }
-{
-    if clear {
-        return WordFill(0);
-    }
-    fill
-}
-
 // ---- the ring
 
-// The word at the head of a ring, zero where there is no such place.
-pub fn front(words: &[u32], head: u32) -> u32
-    ensures { λ r. ⌜ r ≡ getD (now (words .entry)) (head % 8) 0 ⌝ }
+// The place of the front word.
+pub fn front_place(head: u32) -> usize
+    ensures { λ r. ⌜ r ≡ head % 8 ⌝ }
 {
-    let at = (head % DEPTH) as usize;
-    if at < words.len() { words[at] } else { 0 }
+    (head % DEPTH) as usize
 }
 
 // The head when the word at it has left.
@@ -139,12 +126,9 @@ pub fn past(head: u32) -> u32
     (head % DEPTH + 1) % DEPTH
 }
 
-// A word behind those that a ring of eight places holds, if there is room.
-pub fn push(words: &mut [u32], head: u32, fill: WordFill, word: u32)
-    ensures { λ r. ⌜ (length (now (words .entry)) ≡ 8 → fill .0 < 8 → from 8 0 (now (words .exit)) head (suc (fill .0)) ≡ from 8 0 (now (words .entry)) head (fill .0) ++ word ∷ []) ⌝ }
+// The place behind the last of so many words.
+pub fn free_place(head: u32, fill: WordFill) -> usize
+    ensures { λ r. ⌜ r ≡ (head + fill .0) % 8 ⌝ }
 {
-    let at = ((head % DEPTH + fill.0 % DEPTH) % DEPTH) as usize;
-    if at < words.len() {
-        words[at] = word;
-    }
+    ((head % DEPTH + fill.0 % DEPTH) % DEPTH) as usize
 }

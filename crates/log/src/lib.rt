@@ -8,22 +8,19 @@ ghost use Rattle.machine.specs.State.{State, resetState};
 ghost use Rattle.machine.specs.Step.{notAFrame};
 ghost use Rattle.controller.specs.Controller.{stateOf};
 ghost use Rattle.step.specs.Outcome.{outcomeOf};
-ghost use Rattle.bank.specs.Bank.{stateIn};
+ghost use Rattle.bank.specs.Words.{stateOfWords};
 ghost use Rattle.refusal.specs.Codes.{formCode};
 ghost use Rattle.step.specs.Parts.{outcomeIn};
-ghost use Rattle.step.specs.InBank.{Whole};
 ghost use Rattle.lines.specs.Lines.{linesFrom};
 ghost use Rattle.frame.specs.Frame.{framedOutcome};
 ghost use Rattle.logline.specs.LogLine.{lineRoom};
 ghost use Rattle.log.specs.Log.{lineOutcome, linesOutcome, pieceOutcome};
 ghost use Rattle.log.specs.Results.{RunPromised, TextLogged, begunOf, TurnPromised, PieceLogged, FeedPromised};
-use bank::Bank;
 use controller::Controller;
 use frame::Framed;
 use logline::LINE_ROOM;
 use machine::Answer;
 use machine::codes;
-use step::Banked;
 use step::Stepped;
 
 // ---- a line
@@ -191,27 +188,15 @@ fn taken(piece: &[u8], at: usize, carried: &mut [u8], len: usize) -> Turn
     byte_taken(piece, at, carried, len)
 }
 
-// What a line says is answered, by a bank: a step, or code 14. Codes 1 and 2 are tested already, and stay as they are.
-fn banked(
-    b: Bank,
-    mail: &mut [u32],
-    pci: &mut [u32],
-    addon: &mut [u32],
-    memory: &mut [u32],
-    start: u32,
-    form: u32,
-    f: Framed,
-) -> Banked
-    requires { ⌜ Whole (now mail) (now pci) (now addon) ⌝ }
-    requires { ⌜ form ≡ formCode (stateIn b (now mail) (now pci) (now addon)) start (length (now memory)) ⌝ }
-    ensures { λ r. ⌜ outcomeIn r (now (mail .exit)) (now (pci .exit)) (now (addon .exit)) (now (memory .exit)) ≡ framedOutcome f (stateIn b (now (mail .entry)) (now (pci .entry)) (now (addon .entry))) start (now (memory .entry)) ⌝ }
+// What a line says is answered, on a controller's words: a step, or code 14. Codes 1 and 2 are tested already, and stay as they are.
+fn answer_words(words: &mut [u32], memory: &mut [u32], start: u32, form: u32, f: Framed) -> Answer
+    requires { ⌜ length (now words) ≡ 38 ⌝ }
+    requires { ⌜ form ≡ formCode (stateOfWords (now words)) start (length (now memory)) ⌝ }
+    ensures { λ r. ⌜ outcomeIn (now (words .exit)) (now (memory .exit)) r ≡ framedOutcome f (stateOfWords (now (words .entry))) start (now (memory .entry)) ⌝ }
 {
     match f {
-        Framed::Frame(s) => step::in_bank(b, mail, pci, addon, memory, start, form, s),
-        Framed::NotAFrame => {
-            let answer = not_a_frame(b.intcsr, b.aint);
-            Banked { bank: b, answer }
-        }
+        Framed::Frame(s) => step::in_words(words, memory, start, form, s),
+        Framed::NotAFrame => not_a_frame(words[bank::INTCSR], words[bank::AINT]),
     }
 }
 
@@ -228,12 +213,8 @@ fn feed_bytes(
     requires { ⌜ at + lineRoom * length (pieceOutcome (stateOf (s .controller)) start (now memory) (begunOf s) (now piece) .answers) ≤ length (now out) ⌝ }
     ensures { λ r. ⌜ PieceLogged set (pieceOutcome (stateOf (s .controller)) start (now (memory .entry)) (begunOf s) (now (piece .entry))) r (now (memory .exit)) (now (out .entry)) at (now (out .exit)) ⌝ }
 {
-    let c = s.controller;
-    let mut mail = bank::mail_of(c);
-    let mut pci = bank::pci_of(c);
-    let mut addon = bank::addon_of(c);
-    let mut b = bank::bank_of(c);
-    let form = refusal::form(b, start, memory.len());
+    let mut words = bank::words_of(s.controller);
+    let form = refusal::form(bank::bank_in(&words), start, memory.len());
     let mut bytes = s.bytes;
     let mut len = kept(s.len);
     let mut n = at;
@@ -244,13 +225,11 @@ fn feed_bytes(
         len = t.len;
         if t.ended {
             let f = t.framed;
-            let r = banked(b, &mut mail, &mut pci, &mut addon, memory, start, form, f);
-            let next = r.bank;
-            b = next;
-            n = logline::put_line(out, n, r.answer, set);
+            let a = answer_words(&mut words, memory, start, form, f);
+            n = logline::put_line(out, n, a, set);
         }
     }
-    let controller = bank::controller_of(b, mail, pci, addon);
+    let controller = bank::controller_of(words);
     let stream = Stream {
         controller,
         bytes,

@@ -4,7 +4,7 @@ ghost use mathlib.Core.Bool.{true};
 ghost use Rattle.machine.specs.Access.{accessOf, kindOf, isReadBy, isWriteBy};
 ghost use lib.ListN.{getD};
 ghost use Rattle.machine.specs.Offsets.{isMailbox, mailbox, writer, reader};
-ghost use Rattle.machine.specs.Mailboxes.{marksAt, fills, takes, changes, marksAfter, mailAfter};
+ghost use Rattle.machine.specs.Mailboxes.{marksAt, fills, takes, changes, mailAfter};
 use machine::Step;
 use machine::WORD_BYTES;
 use machine::kinds;
@@ -74,16 +74,6 @@ pub fn changes(s: Step, marks: u32) -> u32
         return marks_at(s.offset, s.enables) & marks;
     }
     0
-}
-
-// The marks after a done step: none after a clear, else those are turned that it changes.
-pub fn marks_after(s: Step, marks: u32) -> u32
-    ensures { λ r. ⌜ r ≡ marksAfter (accessOf s) marks ⌝ }
-{
-    if commands::clears_marks(s) {
-        return 0;
-    }
-    marks ^ changes(s, marks)
 }
 
 // An owner's write stores the enabled bytes in its mailbox's word.

@@ -1,21 +1,20 @@
 // The code of a step, in parts: of the form, of a read or a write, of a cycle. Nothing is changed here.
 ghost use mathlib.Core.Path.{_≡_};
-ghost use mathlib.Core.Bool.{not};
-ghost use mathlib.Core.List.{List, [], _∷_};
+ghost use mathlib.Core.Bool.{not, _&&_, _||_};
+ghost use mathlib.Core.List.{List};
 ghost use Prim.Native.Nat.{ℕ, _%_, _<_};
 ghost use lib.Dec.{eqb, ltb};
 ghost use lib.ListN.{length};
 ghost use Rattle.machine.specs.Sides as sides;
+ghost use Rattle.machine.specs.State.{lane};
 ghost use Rattle.machine.specs.Access.{accessOf};
 ghost use Rattle.machine.specs.Offsets.{inTable, isReadOnly};
 ghost use Rattle.machine.specs.Window.{inside, isWindowOutOfForm};
-ghost use Rattle.machine.specs.Words.{anyOf};
+ghost use Rattle.machine.specs.Rights.{ended};
 ghost use Rattle.machine.specs.Code.{isUnknownOffset, isReadOnlyWrite, isFullOrEmpty};
 ghost use Rattle.bank.specs.Bank.{stateIn};
 ghost use Rattle.refusal.specs.Codes.{accessCode, cycleCode, formCode};
 use bank::Bank;
-use controller::ByteCount;
-use fifo::WordFill;
 use machine::ALL_ENABLES;
 use machine::Step;
 use machine::WORD_BYTES;
@@ -26,11 +25,24 @@ use machine::offsets;
 // The most words that a window may have.
 const WINDOW_MAX: usize = 16384;
 
-// Code 1, of a lane, and whether its right stands together with an end of it.
-fn is_lane_out_of_form(fill: WordFill, address: u32, count: ByteCount, wrong: bool) -> bool
-    ensures { λ r. ⌜ r ≡ anyOf (ltb 8 (fill .0) ∷ not (eqb (address % 4) 0) ∷ ltb 0x03FF_FFFF (count .0) ∷ wrong ∷ []) ⌝ }
+// Code 1, of both lanes: a fill, an address, a count. Each pair stands together: the compiler makes one test of it.
+fn are_lanes_out_of_form(b: Bank) -> bool
+    ensures { λ r. ⌜ r ≡ (ltb 8 (b .«pci_fill» .0) || ltb 8 (b .«addon_fill» .0) || ((not (eqb (b .«read_address» % 4) 0) || not (eqb (b .«write_address» % 4) 0)) || (ltb 0x03FF_FFFF (b .«read_count» .0) || ltb 0x03FF_FFFF (b .«write_count» .0)))) ⌝ }
 {
-    fifo::is_out_of_form(fill) | (address % WORD_BYTES != 0) | count::is_out_of_form(count) | wrong
+    let fills = fifo::is_out_of_form(b.pci_fill) | fifo::is_out_of_form(b.addon_fill);
+    let addresses = (b.read_address % WORD_BYTES != 0) | (b.write_address % WORD_BYTES != 0);
+    let counts = count::is_out_of_form(b.read_count) | count::is_out_of_form(b.write_count);
+    fills | (addresses | counts)
+}
+
+// Whether a right stands together with an end of it. Mostly none stands, and no end is looked at.
+fn is_right_wrong(b: Bank) -> bool
+    ensures { λ r. ⌜ ((mail pci addon : List ℕ) → r ≡ (b .«read_right» && ended sides.pci (lane sides.pci (stateIn b mail pci addon)) (b .mcsr) (b .intcsr) || b .«write_right» && ended sides.addon (lane sides.addon (stateIn b mail pci addon)) (b .mcsr) (b .intcsr))) ⌝ }
+{
+    if !(b.read_right | b.write_right) {
+        return false;
+    }
+    b.read_right & rights::is_read_ended(b) | b.write_right & rights::is_write_ended(b)
 }
 
 // Code 2, window out of form.
@@ -47,11 +59,11 @@ pub fn form(b: Bank, start: u32, words: usize) -> u32
     let i = word::is_only(interrupts::KEPT | interrupts::INTCSR_FLAGS, b.intcsr);
     let m = word::is_only(mcsr::KEPT, b.mcsr);
     let n = word::is_only(interrupts::KEPT | interrupts::AINT_FLAGS, b.aint);
-    let read = b.read_right & rights::is_read_ended(b);
-    let write = b.write_right & rights::is_write_ended(b);
-    let p = is_lane_out_of_form(b.pci_fill, b.read_address, b.read_count, read);
-    let a = is_lane_out_of_form(b.addon_fill, b.write_address, b.write_count, write);
-    if p | a | !i | !m | !n {
+    let lanes = are_lanes_out_of_form(b);
+    if lanes | !i | !m | !n {
+        return codes::STATE_OUT_OF_FORM;
+    }
+    if is_right_wrong(b) {
         return codes::STATE_OUT_OF_FORM;
     }
     if is_window_out_of_form(start, words) {

@@ -1,11 +1,10 @@
-// The right of a burst, of each direction: what ends it.
+// What ends the right of a burst, in each direction.
 ghost use mathlib.Core.Path.{_≡_};
-ghost use mathlib.Core.Bool.{false, cond};
 ghost use mathlib.Core.List.{List};
 ghost use Prim.Native.Nat.{ℕ};
 ghost use Rattle.machine.specs.Sides as sides;
 ghost use Rattle.machine.specs.State.{lane};
-ghost use Rattle.machine.specs.Rights.{ended, settled};
+ghost use Rattle.machine.specs.Rights.{ended};
 ghost use Rattle.bank.specs.Bank.{stateIn};
 use bank::Bank;
 
@@ -29,23 +28,4 @@ pub fn is_write_ended(b: Bank) -> bool
         | !word::bit(b.mcsr, mcsr::WRITE_FOUR)
         | !word::bit(b.mcsr, mcsr::WRITE_ENABLE)
         | interrupts::is_abort_in(b.intcsr)
-}
-
-// A right, unless its FIFO is cleared.
-pub fn kept(cleared: bool, right: bool) -> bool
-    ensures { λ r. ⌜ r ≡ cond cleared false right ⌝ }
-{
-    if cleared { false } else { right }
-}
-
-// The numbers that a done step leaves: no right stands together with an end of it.
-pub fn settled(b: Bank) -> Bank
-    ensures { λ r. ⌜ ((mail pci addon : List ℕ) → stateIn r mail pci addon ≡ settled (stateIn b mail pci addon)) ⌝ }
-{
-    let read_right = b.read_right & !is_read_ended(b);
-    let write_right = b.write_right & !is_write_ended(b);
-    let mut next = bank::copied(b);
-    next.read_right = read_right;
-    next.write_right = write_right;
-    next
 }

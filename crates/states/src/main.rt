@@ -121,11 +121,8 @@ fn write_lane(l: Lane) {
     let mut head = f.head;
     let mut i: u32 = 0;
     while i < 8 {
-        write_number(if i < fill {
-            fifo::front(&words, head)
-        } else {
-            0
-        });
+        let at = fifo::front_place(head);
+        write_number(if i < fill { words[at] } else { 0 });
         head = fifo::past(head);
         i += 1;
     }

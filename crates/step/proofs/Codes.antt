@@ -1,7 +1,7 @@
 -- The code of a step in parts: the codes of form first, then those of its kind.
 use Prim.Native.Nat.{ℕ, _<_}
 use mathlib.Core.Path.{_≡_, refl, sym, ap, _∙_}
-use mathlib.Core.Bool.{Bool, true, false, cond}
+use mathlib.Core.Bool.{Bool, true, false, cond, not, _&&_, true≢false}
 use mathlib.Core.List.{List}
 use native.Mathlib.Decide.{ℕ-discrete}
 use native.Mathlib.Omega.{arith}
@@ -19,8 +19,7 @@ use Rattle.laws.proofs.KindNumbers.{named}
 use Rattle.laws.proofs.Form.{form-kept}
 use Rattle.refusal.specs.Codes.{formCode, accessCode, cycleCode, cycleBy}
 use Rattle.refusal.proofs.Tables.{access, no-cycle}
-use Rattle.step.specs.Parts.{toldStep}
-use Rattle.step.specs.InBank.{ToldRightly}
+use Rattle.step.specs.Parts.{toldStep, ToldRightly}
 use Rattle.step.proofs.Laws.{refusal}
 
 -- ---- the codes from 3 on, by kind
@@ -103,3 +102,10 @@ module _ (st : State) (start : ℕ) (memory : List ℕ) (s : Step) where
 
   pub form-stays : formCode (stepOf st start memory s .state) start words ≡ formCode st start words
   form-stays = stays (ℕ-discrete (formCode st start words) 0)
+
+-- ---- neither done nor code 13
+
+pub neither-code : (a b : Bool) → (not a && not b) ≡ false → a ≡ false → b ≡ false → ⊥
+neither-code true b h e f = true≢false e
+neither-code false true h e f = true≢false f
+neither-code false false h e f = true≢false h

@@ -1,4 +1,4 @@
--- What the proofs of banked cycles and of the reset need of the machine's rules.
+-- What the proofs of cycles need of the machine's rules.
 use Prim.Native.Nat.{ℕ, _-_, _≤_, _<_}
 use mathlib.Core.Path.{_≡_, refl, _∙_}
 use mathlib.Core.Bool.{Bool, true, false, cond, not, _&&_, _||_}
@@ -6,7 +6,7 @@ use lib.Dec.{leb}
 use mathlib.Core.List.{List, [], _∷_, _++_}
 use native.Mathlib.Omega.{arith}
 use lib.Bits.{xor-zero-r}
-use lib.ListN.{length, drop, set, replicate}
+use lib.ListN.{length, drop}
 use borrow.Author.Tests.{ltb-true, leb-true, not-false}
 use Rattle.machine.specs.Words.{bit, raised}
 use Rattle.machine.specs.Sides.{Side, pci, addon, sameSide}
@@ -127,17 +127,3 @@ module _ (st : State) (start : ℕ) (memory : List ℕ) (x : Access) (code : ℕ
       → settledOutcome (record { state = abortedState st; memory = memory; answer = answered (abortedState st) 13 (record { address = address; value = 0; enables = 0; changed = 0 }) }) ≡ respond st start memory x code
   unfolding respond replyOf stateAfter memoryAfter
   abort-step address e r = not-done (abortedState st) memory 13 _ (λ z. omega arith) ∙ rw (e, r)
-
--- ---- a reset
-
-pub eight-zeros : (l : List ℕ) → length l ≡ 8 → set (set (set (set (set (set (set (set l 0 0) 1 0) 2 0) 3 0) 4 0) 5 0) 6 0) 7 0 ≡ replicate 8 0
-eight-zeros [] e = absurd (omega arith)
-eight-zeros (a ∷ []) e = absurd (omega arith)
-eight-zeros (a ∷ b ∷ []) e = absurd (omega arith)
-eight-zeros (a ∷ b ∷ c ∷ []) e = absurd (omega arith)
-eight-zeros (a ∷ b ∷ c ∷ d ∷ []) e = absurd (omega arith)
-eight-zeros (a ∷ b ∷ c ∷ d ∷ f ∷ []) e = absurd (omega arith)
-eight-zeros (a ∷ b ∷ c ∷ d ∷ f ∷ g ∷ []) e = absurd (omega arith)
-eight-zeros (a ∷ b ∷ c ∷ d ∷ f ∷ g ∷ h ∷ []) e = absurd (omega arith)
-eight-zeros (a ∷ b ∷ c ∷ d ∷ f ∷ g ∷ h ∷ i ∷ []) e = refl
-eight-zeros (a ∷ b ∷ c ∷ d ∷ f ∷ g ∷ h ∷ i ∷ j ∷ l) e = absurd (omega arith)

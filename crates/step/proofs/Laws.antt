@@ -1,16 +1,16 @@
--- What the proofs of a banked step need of the machine's rules.
-use Prim.Native.Nat.{ℕ, suc, _-_, _<_}
+-- What the proofs of a step need of the machine's rules.
+use Prim.Native.Nat.{ℕ, suc, _-_, _%_, _<_}
 use mathlib.Core.Path.{_≡_, refl, sym, _∙_}
 use mathlib.Core.Bool.{Bool, true, false, cond, not, _&&_, _||_, and-false, true≢false}
 use mathlib.Core.List.{List, [], _∷_, _++_}
 use native.Mathlib.Omega.{arith}
 use lib.Bits.{bitXor, xor-zero-r}
-use lib.Dec.{eqb, ltb}
+use lib.Dec.{eqb, leb, ltb}
 use lib.ListN.{length, drop}
-use Rattle.laws.proofs.Tests.{none-applies, neither, and-at, or-right}
+use Rattle.laws.proofs.Tests.{none-applies, neither, and-left, and-at, or-right}
 use Rattle.laws.proofs.Bits.{bit-zero}
 use Rattle.laws.proofs.Done.{room-to-write}
-use borrow.Author.Tests.{eqb-true, eqb-false, lt-ltb, ne-eqb, not-false}
+use borrow.Author.Tests.{eqb-true, eqb-false, lt-ltb, ltb-true, leb-true, ne-eqb, not-false}
 use Rattle.machine.specs.Words.{raised, written}
 use Rattle.machine.specs.Commands.{clearsFifo}
 use Rattle.fifo.specs.Ring.{from}
@@ -28,10 +28,11 @@ use Rattle.machine.specs.Code.{stepTests, isUnknownOffset, isPortStuck, isFullO
 use Rattle.machine.specs.declared.Step.{Step}
 use Rattle.machine.specs.declared.Answer.{Answer}
 use Rattle.refusal.specs.Codes.{accessCode}
-use Rattle.step.specs.Parts.{settledOutcome}
+use Rattle.step.specs.Parts.{settledOutcome, marksCleared, pciCleared, addonCleared}
 use Rattle.fifo.proofs.Ring.{length-from}
 use Rattle.bank.specs.declared.Bank.{Bank}
 use Rattle.bank.specs.Bank.{stateIn}
+use Rattle.bank.specs.Words.{bankIn, stateOfWords}
 use Rattle.machine.specs.Step.{Reply, nothing, showing, register, readValue, doneReply, movedState, doneState, replyOf, answered, stateAfter, memoryAfter, respond}
 
 -- a refusal: the state and the memory stay
@@ -56,20 +57,16 @@ neither-stands true b e = absurd (true≢false (sym e))
 neither-stands false true e = absurd (true≢false (sym e))
 neither-stands false false e = (refl, refl)
 
-pub none-stands : (b : Bank) (mail places behind memory : List ℕ) (answer : Answer) → not (b .«read_right» || b .«write_right») ≡ true
-    → record { state = stateIn b mail places behind; memory = memory; answer = answer } ≡ settledOutcome (record { state = stateIn b mail places behind; memory = memory; answer = answer })
-unfolding stateIn settled settledOutcome
-none-stands b mail places behind memory answer h = λ i. record { state = by (eqb (answer .code) 0) i; memory = memory; answer = answer }
+pub none-stands : (l : List ℕ) (b : Bank) → b ≡ bankIn l → not (b .«read_right» || b .«write_right») ≡ true → settled (stateOfWords l) ≡ stateOfWords l
+unfolding stateIn settled
+none-stands l b e h = rw (sym (λ i. e i .«read_right») ∙ none .0, sym (λ i. e i .«write_right») ∙ none .1)
   where
     none : (b .«read_right» ≡ false) × (b .«write_right» ≡ false)
     none = neither-stands (b .«read_right») (b .«write_right») h
 
-    same : settled (stateIn b mail places behind) ≡ stateIn b mail places behind
-    same = rw (none .0, none .1)
-
-    by : (d : Bool) → stateIn b mail places behind ≡ cond d (settled (stateIn b mail places behind)) (stateIn b mail places behind)
-    by true = sym same
-    by false = refl
+pub either-way : (b : Bool) (x y : State) → x ≡ y → cond b x y ≡ y
+either-way true x y e = e
+either-way false x y e = refl
 
 -- nor has what a reset leaves
 pub settled-reset : (memory : List ℕ) → settledOutcome (record { state = resetState; memory = memory; answer = answered resetState 0 nothing }) ≡ record { state = resetState; memory = memory; answer = answered resetState 0 nothing }
@@ -137,32 +134,6 @@ module _ (st : State) (s : Step) (elsewhere : s .offset ≡ 0x20 → ⊥) (word 
   unfolding movedState mailAfter marksAfter addressAfter countAfter rightAfter interruptsAfter mcsrAfter
   addon-read-state k = rw k (simp (ne-eqb (s .offset) 0x20 elsewhere))
 
-  pub addon-write-state : s .kind ≡ 3
-      → record {
-        mail = mailAfter (accessOf s) (st .mail);
-        marks = marksAfter (accessOf s) (st .marks);
-        fromPci = record { words = cond (clearsFifo pci (accessOf s)) [] (st .fromPci .words); address = st .fromPci .address; count = st .fromPci .count; right = cond (clearsFifo pci (accessOf s)) false (st .fromPci .right) };
-        fromAddon = record { words = cond (clearsFifo addon (accessOf s)) [] (st .fromAddon .words); address = st .fromAddon .address; count = st .fromAddon .count; right = cond (clearsFifo addon (accessOf s)) false (st .fromAddon .right) };
-        intcsr = notified (st .intcsr) (changes (accessOf s) (st .marks));
-        mcsr = st .mcsr;
-        aint = cond (eqb (s .offset) 0x38) (interruptsWritten addon (st .aint) (s .value) (s .enables)) (st .aint);
-      } ≡ movedState st (accessOf s) word
-  unfolding movedState addressAfter countAfter rightAfter interruptsAfter mcsrAfter
-  addon-write-state k = rw k (simp (ne-eqb (s .offset) 0x20 elsewhere))
-
-  pub pci-write-state : s .kind ≡ 1
-      → record {
-        mail = mailAfter (accessOf s) (st .mail);
-        marks = marksAfter (accessOf s) (st .marks);
-        fromPci = record { words = cond (clearsFifo pci (accessOf s)) [] (st .fromPci .words); address = cond (eqb (s .offset) 0x2C) (written addressKept (st .fromPci .address) (s .value) (s .enables)) (st .fromPci .address); count = cond (eqb (s .offset) 0x30) (written countKept (st .fromPci .count) (s .value) (s .enables)) (st .fromPci .count); right = cond (clearsFifo pci (accessOf s)) false (st .fromPci .right) };
-        fromAddon = record { words = cond (clearsFifo addon (accessOf s)) [] (st .fromAddon .words); address = cond (eqb (s .offset) 0x24) (written addressKept (st .fromAddon .address) (s .value) (s .enables)) (st .fromAddon .address); count = cond (eqb (s .offset) 0x28) (written countKept (st .fromAddon .count) (s .value) (s .enables)) (st .fromAddon .count); right = cond (clearsFifo addon (accessOf s)) false (st .fromAddon .right) };
-        intcsr = cond (eqb (s .offset) 0x38) (interruptsWritten pci (st .intcsr) (s .value) (s .enables)) (st .intcsr);
-        mcsr = mcsrAfter (accessOf s) (st .mcsr);
-        aint = notified (st .aint) (changes (accessOf s) (st .marks));
-      } ≡ movedState st (accessOf s) word
-  unfolding movedState addressAfter countAfter rightAfter interruptsAfter
-  pci-write-state k = rw k (simp (ne-eqb (s .offset) 0x20 elsewhere))
-
   pub pci-read-reply : (start : ℕ) (memory : List ℕ) → s .kind ≡ 0 → showing (register pci st (s .offset)) (changes (accessOf s) (st .marks)) ≡ doneReply (accessOf s .kind) st start memory (accessOf s)
   unfolding doneReply readValue
   pci-read-reply start memory k = rw k (simp (ne-eqb (s .offset) 0x20 elsewhere))
@@ -201,19 +172,70 @@ module _ (st : State) (s : Step) (port : s .offset ≡ 0x20) (word : ℕ) where
   unfolding doneReply readValue changes
   addon-port-reply start memory k = rw (k, port)
 
--- a write answers no more than the marks that it changed, and at the port there are none
+-- a mailbox is at none of the other registers' offsets
+not-at : (o k : ℕ) → isMailbox o ≡ true → leb 0x20 k ≡ true → eqb o k ≡ false
+not-at o k box h = let low = ltb-true o 0x20 (and-left (ltb o 0x20) (eqb (o % 4) 0) box) in ne-eqb o k (λ e. omega (arith, e, low, leb-true 0x20 k h))
+
+-- writes to mailboxes
+module _ (st : State) (s : Step) (box : isMailbox (s .offset) ≡ true) where
+  pub pci-mail-state : s .kind ≡ 1
+      → record { mail = mailAfter (accessOf s) (st .mail); marks = bitXor (st .marks) (changes (accessOf s) (st .marks)); fromPci = st .fromPci; fromAddon = st .fromAddon; intcsr = st .intcsr; mcsr = st .mcsr; aint = notified (st .aint) (changes (accessOf s) (st .marks)) } ≡ movedState st (accessOf s) 0
+  unfolding movedState marksAfter addressAfter countAfter rightAfter interruptsAfter mcsrAfter
+  pci-mail-state k = rw k (simp (not-at (s .offset) 0x20 box refl, not-at (s .offset) 0x24 box refl, not-at (s .offset) 0x28 box refl, not-at (s .offset) 0x2C box refl, not-at (s .offset) 0x30 box refl, not-at (s .offset) 0x38 box refl, not-at (s .offset) 0x3C box refl))
+
+  pub addon-mail-state : s .kind ≡ 3
+      → record { mail = mailAfter (accessOf s) (st .mail); marks = bitXor (st .marks) (changes (accessOf s) (st .marks)); fromPci = st .fromPci; fromAddon = st .fromAddon; intcsr = notified (st .intcsr) (changes (accessOf s) (st .marks)); mcsr = st .mcsr; aint = st .aint } ≡ movedState st (accessOf s) 0
+  unfolding movedState marksAfter addressAfter countAfter rightAfter interruptsAfter mcsrAfter
+  addon-mail-state k = rw k (simp (not-at (s .offset) 0x20 box refl, not-at (s .offset) 0x38 box refl, not-at (s .offset) 0x3C box refl))
+
+-- writes to interrupt and control registers
+module _ (st : State) (s : Step) where
+  pub pci-interrupts-state : s .kind ≡ 1 → s .offset ≡ 0x38
+      → record { mail = st .mail; marks = st .marks; fromPci = st .fromPci; fromAddon = st .fromAddon; intcsr = interruptsWritten pci (st .intcsr) (s .value) (s .enables); mcsr = st .mcsr; aint = st .aint } ≡ movedState st (accessOf s) 0
+  unfolding movedState mailAfter changes marksAfter addressAfter countAfter rightAfter interruptsAfter notified outgoingEvent incomingEvent raised mcsrAfter
+  pci-interrupts-state k at = rw (k, at) (simp (xor-zero-r, bit-zero, and-false))
+
+  pub addon-interrupts-state : s .kind ≡ 3 → s .offset ≡ 0x38
+      → record { mail = st .mail; marks = st .marks; fromPci = st .fromPci; fromAddon = st .fromAddon; intcsr = st .intcsr; mcsr = st .mcsr; aint = interruptsWritten addon (st .aint) (s .value) (s .enables) } ≡ movedState st (accessOf s) 0
+  unfolding movedState mailAfter changes marksAfter addressAfter countAfter rightAfter interruptsAfter notified outgoingEvent incomingEvent raised mcsrAfter
+  addon-interrupts-state k at = rw (k, at) (simp (xor-zero-r, bit-zero, and-false))
+
+  pub pci-control-state : s .kind ≡ 1 → s .offset ≡ 0x3C
+      → addonCleared (accessOf s) (pciCleared (accessOf s) (marksCleared (accessOf s) (record { mail = st .mail; marks = st .marks; fromPci = st .fromPci; fromAddon = st .fromAddon; intcsr = st .intcsr; mcsr = mcsrAfter (accessOf s) (st .mcsr); aint = st .aint }))) ≡ movedState st (accessOf s) 0
+  unfolding movedState mailAfter changes marksAfter addressAfter countAfter rightAfter interruptsAfter notified outgoingEvent incomingEvent raised
+  pci-control-state k at = rw (k, at) (simp (xor-zero-r, bit-zero, and-false))
+
+  pub addon-control-state : s .kind ≡ 3 → isMailbox (s .offset) ≡ false → (s .offset ≡ 0x20 → ⊥) → (s .offset ≡ 0x38 → ⊥)
+      → addonCleared (accessOf s) (pciCleared (accessOf s) (marksCleared (accessOf s) st)) ≡ movedState st (accessOf s) 0
+  unfolding movedState mailAfter changes marksAfter addressAfter countAfter rightAfter interruptsAfter notified outgoingEvent incomingEvent raised mcsrAfter
+  addon-control-state k box port at = rw (k, box) (simp (box, ne-eqb (s .offset) 0x20 port, ne-eqb (s .offset) 0x38 at, xor-zero-r, bit-zero, and-false))
+
+  -- to addresses and counts
+  pub pci-transfer-state : s .kind ≡ 1 → isMailbox (s .offset) ≡ false → (s .offset ≡ 0x20 → ⊥) → (s .offset ≡ 0x38 → ⊥) → (s .offset ≡ 0x3C → ⊥)
+      → record {
+        mail = st .mail;
+        marks = st .marks;
+        fromPci = record { words = st .fromPci .words; address = cond (eqb (s .offset) 0x2C) (written addressKept (st .fromPci .address) (s .value) (s .enables)) (st .fromPci .address); count = cond (eqb (s .offset) 0x30) (written countKept (st .fromPci .count) (s .value) (s .enables)) (st .fromPci .count); right = st .fromPci .right };
+        fromAddon = record { words = st .fromAddon .words; address = cond (eqb (s .offset) 0x24) (written addressKept (st .fromAddon .address) (s .value) (s .enables)) (st .fromAddon .address); count = cond (eqb (s .offset) 0x28) (written countKept (st .fromAddon .count) (s .value) (s .enables)) (st .fromAddon .count); right = st .fromAddon .right };
+        intcsr = st .intcsr;
+        mcsr = st .mcsr;
+        aint = st .aint;
+      } ≡ movedState st (accessOf s) 0
+  unfolding movedState mailAfter changes marksAfter addressAfter countAfter rightAfter interruptsAfter notified outgoingEvent incomingEvent raised mcsrAfter
+  pci-transfer-state k box port at control = rw (k, box) (simp (box, ne-eqb (s .offset) 0x20 port, ne-eqb (s .offset) 0x38 at, ne-eqb (s .offset) 0x3C control, xor-zero-r, bit-zero, and-false))
+
+-- a write answers no more than the marks that it changed; away from the mailboxes there are none
+no-change : (x : Access) (marks : ℕ) → isMailbox (x .offset) ≡ false → changes x marks ≡ 0
+unfolding changes
+no-change x marks box = simp (box, and-false)
+
 module _ (st : State) (start : ℕ) (memory : List ℕ) (x : Access) (party : Party) (k : x .kind ≡ writing party) where
   pub write-reply : showing 0 (changes x (st .marks)) ≡ doneReply (x .kind) st start memory x
   unfolding doneReply
   write-reply = rw k
 
-  pub port-write-reply : x .offset ≡ 0x20 → nothing ≡ doneReply (x .kind) st start memory x
-  unfolding doneReply changes
-  port-write-reply port = rw (k, port) (none party)
-    where
-      none : (p : Party) → nothing ≡ showing 0 (changes (record { kind = writing p; offset = 0x20; enables = x .enables; value = x .value }) (st .marks))
-      none host = refl
-      none card = refl
+  pub plain-write-reply : isMailbox (x .offset) ≡ false → nothing ≡ doneReply (x .kind) st start memory x
+  plain-write-reply box = (λ i. showing 0 (sym (no-change x (st .marks) box) i)) ∙ write-reply
 
 -- ---- what the Add-On reads
 
@@ -225,12 +247,6 @@ read-in-table st s e k = not-false _ (rw k at (none-applies (drop 3 (stepTests s
 -- and if it is none of the others, of AGCSTS
 pub last-of-table : (o : ℕ) → inTable addon o ≡ true → isMailbox o ≡ false → (o ≡ 0x20 → ⊥) → (o ≡ 0x34 → ⊥) → (o ≡ 0x38 → ⊥) → o ≡ 0x3C
 last-of-table o t m a b c = eqb-true o 0x3C (rw (m, ne-eqb o 0x20 a, ne-eqb o 0x34 b, ne-eqb o 0x38 c) at t)
-
--- a FIFO that is cleared has no words
-pub cleared-words : (clear : Bool) (places : List ℕ) (head fill : ℕ) → from 8 0 places head (cond clear 0 fill) ≡ cond clear [] (from 8 0 places head fill)
-unfolding from
-cleared-words true places head fill = refl
-cleared-words false places head fill = refl
 
 pub below-13 : (code : ℕ) → code < 14 → (code ≡ 13 → ⊥) → code < 13
 below-13 code h other = omega arith

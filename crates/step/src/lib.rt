@@ -1,19 +1,18 @@
-// One step of the controller, by kind: on a bank of its numbers, with its words and the host memory lent, and by value above it.
-// Each kind looks at what it needs and changes what it can change; that the rest stays is proved, not computed.
+// One step of the controller, by kind: on its words where they stand, and by value above it.
+// Each kind looks at what it needs and stores what it changes; that the rest stays is proved, not computed.
 ghost use mathlib.Core.Path.{_≡_};
-ghost use mathlib.Core.Bool.{true};
+ghost use mathlib.Core.Bool.{true, false};
 ghost use mathlib.Core.List.{List};
 ghost use Prim.Native.Nat.{ℕ};
-ghost use lib.ListN.{length};
+ghost use lib.ListN.{length, replicate};
 ghost use Rattle.machine.specs.Sides as sides;
-ghost use Rattle.machine.specs.State.{resetState};
+ghost use Rattle.machine.specs.State.{State, resetState};
 ghost use Rattle.machine.specs.Access.{accessOf};
-ghost use Rattle.machine.specs.Offsets.{inTable};
-ghost use Rattle.machine.specs.Mailboxes.{changes, mailAfter};
-ghost use Rattle.machine.specs.Step.{nothing, register, answered, movedState, abortedState};
+ghost use Rattle.machine.specs.Offsets.{isMailbox, inTable};
+ghost use Rattle.machine.specs.Step.{nothing, register, answered};
 ghost use Rattle.bank.specs.Bank.{stateIn};
-ghost use Rattle.step.specs.Parts.{outcomeIn, settledOutcome, toldStep, Accessed, Cycled};
-ghost use Rattle.step.specs.InBank.{InBank};
+ghost use Rattle.bank.specs.Words.{mailIn, stateOfWords};
+ghost use Rattle.step.specs.Parts.{marksCleared, pciCleared, addonCleared, Stored, Done, Accessed, Cycled, Aborted, Settled, Kind, InWords};
 ghost use Rattle.step.specs.Unique.{StepPromised};
 use bank::Bank;
 use controller::ByteCount;
@@ -30,26 +29,25 @@ pub struct Stepped {
     pub answer: Answer,
 }
 
-// The same with the controller's numbers alone.
-pub struct Banked {
-    pub bank: Bank,
-    pub answer: Answer,
-}
-
-// The mailbox words, and the places of a FIFO.
-const RUN: usize = 8;
-
 // ---- answers
 
-// What is answered, with the lines of the state that is left, but for code 1.
-fn answered(b: Bank, code: u32, address: u32, value: u32, enables: u32, changed: u32) -> Banked
-    ensures { λ r. ⌜ (r .bank ≡ b) × ((mail pci addon : List ℕ) → r .answer ≡ answered (stateIn b mail pci addon) code (record { address = address; value = value; enables = enables; changed = changed })) ⌝ }
+// What is answered, with the lines that INTCSR and AINT have then, but for code 1.
+fn answered(
+    intcsr: u32,
+    aint: u32,
+    code: u32,
+    address: u32,
+    value: u32,
+    enables: u32,
+    changed: u32,
+) -> Answer
+    ensures { λ r. ⌜ ((st : State) → st .intcsr ≡ intcsr → st .aint ≡ aint → r ≡ answered st code (record { address = address; value = value; enables = enables; changed = changed })) ⌝ }
 {
-    let i = interrupts::line(b.intcsr);
-    let a = interrupts::line(b.aint);
+    let i = interrupts::line(intcsr);
+    let a = interrupts::line(aint);
     let line = (code != codes::STATE_OUT_OF_FORM) & i;
     let addon_line = (code != codes::STATE_OUT_OF_FORM) & a;
-    let answer = Answer {
+    Answer {
         code,
         address,
         value,
@@ -57,33 +55,53 @@ fn answered(b: Bank, code: u32, address: u32, value: u32, enables: u32, changed:
         line,
         addon_line,
         changed,
-    };
-    let bank = bank::copied(b);
-    Banked { bank, answer }
+    }
+}
+
+// A refusal answers its code and the lines.
+fn refused(b: Bank, code: u32) -> Answer
+    ensures { λ r. ⌜ ((mail pci addon : List ℕ) → r ≡ answered (stateIn b mail pci addon) code nothing) ⌝ }
+{
+    answered(b.intcsr, b.aint, code, 0, 0, 0, 0)
+}
+
+// Code 1 tells of no line.
+fn out_of_form() -> Answer
+    ensures { λ r. ⌜ ((st : State) → r ≡ answered st 1 nothing) ⌝ }
+{
+    Answer {
+        code: codes::STATE_OUT_OF_FORM,
+        address: 0,
+        value: 0,
+        enables: 0,
+        line: false,
+        addon_line: false,
+        changed: 0,
+    }
 }
 
 // Code 13: the abort flags are set, which ends both rights, and the address answered.
-fn aborted(b: Bank, address: u32) -> Banked
-    ensures { λ r. ⌜ ((mail pci addon : List ℕ) → (stateIn (r .bank) mail pci addon ≡ abortedState (stateIn b mail pci addon)) × (r .answer ≡ answered (abortedState (stateIn b mail pci addon)) 13 (record { address = address; value = 0; enables = 0; changed = 0 }))) ⌝ }
+fn aborted(words: &mut [u32], address: u32) -> Answer
+    requires { ⌜ length (now words) ≡ 38 ⌝ }
+    ensures { λ r. ⌜ Aborted (now (words .entry)) address r (now (words .exit)) ⌝ }
 {
-    let i = interrupts::intcsr_aborted(b.intcsr);
-    let a = interrupts::aint_aborted(b.aint);
-    let mut next = b;
-    next.intcsr = i;
-    next.aint = a;
-    next.read_right = false;
-    next.write_right = false;
-    answered(next, codes::NO_MEMORY_THERE, address, 0, 0, 0)
+    let i = interrupts::intcsr_aborted(words[bank::INTCSR]);
+    let a = interrupts::aint_aborted(words[bank::AINT]);
+    words[bank::INTCSR] = i;
+    words[bank::AINT] = a;
+    words[bank::READ_RIGHT] = 0;
+    words[bank::WRITE_RIGHT] = 0;
+    answered(i, a, codes::NO_MEMORY_THERE, address, 0, 0, 0)
 }
 
-// ---- the kinds
+// ---- registers
 
 // The register of PCI at an offset, but for the FIFO port.
-fn pci_register(b: Bank, mail: &[u32], offset: u32) -> u32
-    ensures { λ r. ⌜ ((pci addon : List ℕ) → r ≡ register sides.pci (stateIn b (now (mail .entry)) pci addon) offset) ⌝ }
+fn pci_register(b: Bank, words: &[u32], offset: u32) -> u32
+    ensures { λ r. ⌜ ((pci addon : List ℕ) → r ≡ register sides.pci (stateIn b (mailIn (now (words .entry))) pci addon) offset) ⌝ }
 {
     if mailboxes::is_mailbox(offset) {
-        return mailboxes::mail_word(mail, offset);
+        return mailboxes::mail_word(words, offset);
     }
     if offset == offsets::WRITE_ADDRESS {
         return b.write_address;
@@ -107,12 +125,12 @@ fn pci_register(b: Bank, mail: &[u32], offset: u32) -> u32
 }
 
 // The register of the Add-On at an offset of its table, but for the FIFO port.
-fn addon_register(b: Bank, mail: &[u32], offset: u32) -> u32
+fn addon_register(b: Bank, words: &[u32], offset: u32) -> u32
     requires { ⌜ inTable sides.addon offset ≡ true ⌝ }
-    ensures { λ r. ⌜ ((offset ≡ 0x20 → ⊥) → (pci addon : List ℕ) → r ≡ register sides.addon (stateIn b (now (mail .entry)) pci addon) offset) ⌝ }
+    ensures { λ r. ⌜ ((offset ≡ 0x20 → ⊥) → (pci addon : List ℕ) → r ≡ register sides.addon (stateIn b (mailIn (now (words .entry))) pci addon) offset) ⌝ }
 {
     if mailboxes::is_mailbox(offset) {
-        return mailboxes::mail_word(mail, offset);
+        return mailboxes::mail_word(words, offset);
     }
     if offset == offsets::STATUS {
         return b.marks;
@@ -123,354 +141,527 @@ fn addon_register(b: Bank, mail: &[u32], offset: u32) -> u32
     mcsr::agcsts_read(b)
 }
 
-// A PCI read: at the port the front word of the FIFO from the Add-On leaves; elsewhere the register is shown whole, and marks of enabled bytes may change,
-// which is an event of AINT.
-fn pci_read(b: Bank, mail: &[u32], addon: &[u32], s: Step) -> Banked
-    requires { ⌜ s .kind ≡ 0 ⌝ }
-    ensures { λ r. ⌜ ((pci : List ℕ) → Accessed s (stateIn b (now (mail .entry)) pci (now (addon .entry))) (outcomeIn r (now (mail .entry)) pci (now (addon .entry)))) ⌝ }
+// ---- reads
+
+// A PCI read of the port: the front word of the FIFO from the Add-On leaves.
+fn pci_pop(words: &mut [u32], s: Step) -> Answer
+    requires { ⌜ length (now words) ≡ 38 ⌝ }
+    requires { ⌜ (s .kind ≡ 0) × (s .offset ≡ 0x20) ⌝ }
+    ensures { λ r. ⌜ Accessed s (now (words .entry)) r (now (words .exit)) ⌝ }
 {
+    let b = bank::bank_in(words);
     let code = refusal::access_code(b, s);
     if code != codes::DONE {
-        return answered(b, code, 0, 0, 0, 0);
+        return refused(b, code);
     }
-    let mut next = b;
-    if s.offset == offsets::FIFO_PORT {
-        let x = fifo::front(addon, b.addon_head);
-        let h = fifo::past(b.addon_head);
-        let n = fifo::one_less(b.addon_fill);
-        next.addon_head = h;
-        next.addon_fill = n;
-        return answered(next, codes::DONE, 0, x, 0, 0);
-    }
-    let x = pci_register(b, mail, s.offset);
-    let changed = mailboxes::changes(s, b.marks);
-    let a = interrupts::notified(b.aint, changed);
-    next.marks = b.marks ^ changed;
-    next.aint = a;
-    answered(next, codes::DONE, 0, x, 0, changed)
+    let i = words[bank::INTCSR];
+    let a = words[bank::AINT];
+    let head = words[bank::ADDON_HEAD];
+    let at = fifo::front_place(head);
+    let x = words[bank::ADDON_AT + at];
+    let h = fifo::past(head);
+    let n = fifo::one_less(WordFill(words[bank::ADDON_FILL]));
+    words[bank::ADDON_HEAD] = h;
+    words[bank::ADDON_FILL] = n.0;
+    answered(i, a, codes::DONE, 0, x, 0, 0)
 }
 
-// An Add-On read: the same with the FIFO from PCI, and INTCSR.
-fn addon_read(b: Bank, mail: &[u32], pci: &[u32], s: Step) -> Banked
-    requires { ⌜ s .kind ≡ 2 ⌝ }
-    ensures { λ r. ⌜ ((addon : List ℕ) → Accessed s (stateIn b (now (mail .entry)) (now (pci .entry)) addon) (outcomeIn r (now (mail .entry)) (now (pci .entry)) addon)) ⌝ }
+// A PCI read of any other register: it is shown whole, and marks of enabled bytes may change, which is an event of AINT.
+fn pci_look(words: &mut [u32], s: Step) -> Answer
+    requires { ⌜ length (now words) ≡ 38 ⌝ }
+    requires { ⌜ (s .kind ≡ 0) × (s .offset ≡ 0x20 → ⊥) ⌝ }
+    ensures { λ r. ⌜ Accessed s (now (words .entry)) r (now (words .exit)) ⌝ }
 {
+    let b = bank::bank_in(words);
     let code = refusal::access_code(b, s);
     if code != codes::DONE {
-        return answered(b, code, 0, 0, 0, 0);
+        return refused(b, code);
     }
-    let mut next = b;
-    if s.offset == offsets::FIFO_PORT {
-        let x = fifo::front(pci, b.pci_head);
-        let h = fifo::past(b.pci_head);
-        let n = fifo::one_less(b.pci_fill);
-        next.pci_head = h;
-        next.pci_fill = n;
-        return answered(next, codes::DONE, 0, x, 0, 0);
-    }
-    let x = addon_register(b, mail, s.offset);
-    let changed = mailboxes::changes(s, b.marks);
-    let i = interrupts::notified(b.intcsr, changed);
-    next.marks = b.marks ^ changed;
-    next.intcsr = i;
-    answered(next, codes::DONE, 0, x, 0, changed)
+    let x = pci_register(b, words, s.offset);
+    let i = words[bank::INTCSR];
+    let marks = words[bank::MARKS];
+    let changed = mailboxes::changes(s, marks);
+    let a = interrupts::notified(words[bank::AINT], changed);
+    words[bank::MARKS] = marks ^ changed;
+    words[bank::AINT] = a;
+    answered(i, a, codes::DONE, 0, x, 0, changed)
 }
 
-// The numbers after a PCI write to a register that is not the FIFO port.
-fn operation_write(b: Bank, s: Step, changed: u32) -> Bank
-    requires { ⌜ s .kind ≡ 1 ⌝ }
-    requires { ⌜ (s .offset ≡ 0x20 → ⊥) ⌝ }
-    requires { ⌜ changed ≡ changes (accessOf s) (b .marks) ⌝ }
-    ensures { λ r. ⌜ ((mail pci addon : List ℕ) (word : ℕ) → stateIn r (mailAfter (accessOf s) mail) pci addon ≡ movedState (stateIn b mail pci addon) (accessOf s) word) ⌝ }
+// An Add-On read of the port: the front word of the FIFO from PCI leaves.
+fn addon_pop(words: &mut [u32], s: Step) -> Answer
+    requires { ⌜ length (now words) ≡ 38 ⌝ }
+    requires { ⌜ (s .kind ≡ 2) × (s .offset ≡ 0x20) ⌝ }
+    ensures { λ r. ⌜ Accessed s (now (words .entry)) r (now (words .exit)) ⌝ }
 {
-    let marks = mailboxes::marks_after(s, b.marks);
-    let read_address = address::written(offsets::READ_ADDRESS, s, b.read_address);
-    let read_count = count::written(offsets::READ_COUNT, s, b.read_count);
-    let write_address = address::written(offsets::WRITE_ADDRESS, s, b.write_address);
-    let write_count = count::written(offsets::WRITE_COUNT, s, b.write_count);
-    let intcsr = interrupts::intcsr_written(b.intcsr, s);
-    let mcsr = mcsr::mcsr_after(s, b.mcsr);
-    let aint = interrupts::notified(b.aint, changed);
-    let pci_cleared = commands::clears_from_pci(s);
-    let addon_cleared = commands::clears_from_addon(s);
-    let pci_fill = fifo::left(pci_cleared, b.pci_fill);
-    let addon_fill = fifo::left(addon_cleared, b.addon_fill);
-    let read_right = rights::kept(pci_cleared, b.read_right);
-    let write_right = rights::kept(addon_cleared, b.write_right);
-    let pci_head = b.pci_head;
-    let addon_head = b.addon_head;
-    Bank {
-        marks,
-        intcsr,
-        mcsr,
-        aint,
-        read_address,
-        read_count,
-        read_right,
-        pci_head,
-        pci_fill,
-        write_address,
-        write_count,
-        write_right,
-        addon_head,
-        addon_fill,
-    }
-}
-
-// A PCI write: a word into the FIFO from PCI, or a register.
-fn pci_write(b: Bank, mail: &mut [u32], pci: &mut [u32], s: Step) -> Banked
-    requires { ⌜ s .kind ≡ 1 ⌝ }
-    requires { ⌜ length (now pci) ≡ 8 ⌝ }
-    ensures { λ r. ⌜ ((addon : List ℕ) → Accessed s (stateIn b (now (mail .entry)) (now (pci .entry)) addon) (outcomeIn r (now (mail .exit)) (now (pci .exit)) addon)) ⌝ }
-{
+    let b = bank::bank_in(words);
     let code = refusal::access_code(b, s);
     if code != codes::DONE {
-        return answered(b, code, 0, 0, 0, 0);
+        return refused(b, code);
     }
-    if s.offset == offsets::FIFO_PORT {
-        fifo::push(pci, b.pci_head, b.pci_fill, s.value);
-        let n = fifo::one_more(b.pci_fill);
-        let mut next = b;
-        next.pci_fill = n;
-        return answered(next, codes::DONE, 0, 0, 0, 0);
-    }
-    mailboxes::store(mail, s);
-    let changed = mailboxes::changes(s, b.marks);
-    let next = operation_write(b, s, changed);
-    answered(next, codes::DONE, 0, 0, 0, changed)
+    let i = words[bank::INTCSR];
+    let a = words[bank::AINT];
+    let head = words[bank::PCI_HEAD];
+    let at = fifo::front_place(head);
+    let x = words[bank::PCI_AT + at];
+    let h = fifo::past(head);
+    let n = fifo::one_less(WordFill(words[bank::PCI_FILL]));
+    words[bank::PCI_HEAD] = h;
+    words[bank::PCI_FILL] = n.0;
+    answered(i, a, codes::DONE, 0, x, 0, 0)
 }
 
-// An Add-On write: a word into the FIFO from the Add-On, a mailbox, which is an event of INTCSR, AINT, or clears by AGCSTS.
-fn addon_write(b: Bank, mail: &mut [u32], addon: &mut [u32], s: Step) -> Banked
-    requires { ⌜ s .kind ≡ 3 ⌝ }
-    requires { ⌜ length (now addon) ≡ 8 ⌝ }
-    ensures { λ r. ⌜ ((pci : List ℕ) → Accessed s (stateIn b (now (mail .entry)) pci (now (addon .entry))) (outcomeIn r (now (mail .exit)) pci (now (addon .exit)))) ⌝ }
+// An Add-On read of any other register: the event is of INTCSR.
+fn addon_look(words: &mut [u32], s: Step) -> Answer
+    requires { ⌜ length (now words) ≡ 38 ⌝ }
+    requires { ⌜ (s .kind ≡ 2) × (s .offset ≡ 0x20 → ⊥) ⌝ }
+    ensures { λ r. ⌜ Accessed s (now (words .entry)) r (now (words .exit)) ⌝ }
 {
+    let b = bank::bank_in(words);
     let code = refusal::access_code(b, s);
     if code != codes::DONE {
-        return answered(b, code, 0, 0, 0, 0);
+        return refused(b, code);
     }
-    let mut next = b;
-    if s.offset == offsets::FIFO_PORT {
-        fifo::push(addon, b.addon_head, b.addon_fill, s.value);
-        let n = fifo::one_more(b.addon_fill);
-        next.addon_fill = n;
-        return answered(next, codes::DONE, 0, 0, 0, 0);
-    }
-    mailboxes::store(mail, s);
-    let changed = mailboxes::changes(s, b.marks);
-    let m = mailboxes::marks_after(s, b.marks);
-    let i = interrupts::notified(b.intcsr, changed);
-    let a = interrupts::aint_written(b.aint, s);
-    let pci_cleared = commands::clears_from_pci(s);
-    let addon_cleared = commands::clears_from_addon(s);
-    let p = fifo::left(pci_cleared, b.pci_fill);
-    let n = fifo::left(addon_cleared, b.addon_fill);
-    let read_right = rights::kept(pci_cleared, b.read_right);
-    let write_right = rights::kept(addon_cleared, b.write_right);
-    next.marks = m;
-    next.intcsr = i;
-    next.aint = a;
-    next.pci_fill = p;
-    next.addon_fill = n;
-    next.read_right = read_right;
-    next.write_right = write_right;
-    answered(next, codes::DONE, 0, 0, 0, changed)
+    let x = addon_register(b, words, s.offset);
+    let a = words[bank::AINT];
+    let marks = words[bank::MARKS];
+    let changed = mailboxes::changes(s, marks);
+    let i = interrupts::notified(words[bank::INTCSR], changed);
+    words[bank::MARKS] = marks ^ changed;
+    words[bank::INTCSR] = i;
+    answered(i, a, codes::DONE, 0, x, 0, changed)
 }
+
+// ---- writes
+
+// A PCI write to the port: a word into the FIFO from PCI.
+fn pci_push(words: &mut [u32], s: Step) -> Answer
+    requires { ⌜ length (now words) ≡ 38 ⌝ }
+    requires { ⌜ (s .kind ≡ 1) × (s .offset ≡ 0x20) ⌝ }
+    ensures { λ r. ⌜ Accessed s (now (words .entry)) r (now (words .exit)) ⌝ }
+{
+    let b = bank::bank_in(words);
+    let code = refusal::access_code(b, s);
+    if code != codes::DONE {
+        return refused(b, code);
+    }
+    let i = words[bank::INTCSR];
+    let a = words[bank::AINT];
+    let fill = WordFill(words[bank::PCI_FILL]);
+    let at = fifo::free_place(words[bank::PCI_HEAD], fill);
+    let n = fifo::one_more(fill);
+    words[bank::PCI_AT + at] = s.value;
+    words[bank::PCI_FILL] = n.0;
+    answered(i, a, codes::DONE, 0, 0, 0, 0)
+}
+
+// An Add-On write to the port: a word into the FIFO from the Add-On.
+fn addon_push(words: &mut [u32], s: Step) -> Answer
+    requires { ⌜ length (now words) ≡ 38 ⌝ }
+    requires { ⌜ (s .kind ≡ 3) × (s .offset ≡ 0x20) ⌝ }
+    ensures { λ r. ⌜ Accessed s (now (words .entry)) r (now (words .exit)) ⌝ }
+{
+    let b = bank::bank_in(words);
+    let code = refusal::access_code(b, s);
+    if code != codes::DONE {
+        return refused(b, code);
+    }
+    let i = words[bank::INTCSR];
+    let a = words[bank::AINT];
+    let fill = WordFill(words[bank::ADDON_FILL]);
+    let at = fifo::free_place(words[bank::ADDON_HEAD], fill);
+    let n = fifo::one_more(fill);
+    words[bank::ADDON_AT + at] = s.value;
+    words[bank::ADDON_FILL] = n.0;
+    answered(i, a, codes::DONE, 0, 0, 0, 0)
+}
+
+// A PCI write to a mailbox, which is an event of AINT.
+fn pci_mail(words: &mut [u32], s: Step) -> Answer
+    requires { ⌜ length (now words) ≡ 38 ⌝ }
+    requires { ⌜ (s .kind ≡ 1) × (isMailbox (s .offset) ≡ true) ⌝ }
+    ensures { λ r. ⌜ Accessed s (now (words .entry)) r (now (words .exit)) ⌝ }
+{
+    let b = bank::bank_in(words);
+    let code = refusal::access_code(b, s);
+    if code != codes::DONE {
+        return refused(b, code);
+    }
+    let i = words[bank::INTCSR];
+    let marks = words[bank::MARKS];
+    let changed = mailboxes::changes(s, marks);
+    let a = interrupts::notified(words[bank::AINT], changed);
+    mailboxes::store(words, s);
+    words[bank::MARKS] = marks ^ changed;
+    words[bank::AINT] = a;
+    answered(i, a, codes::DONE, 0, 0, 0, changed)
+}
+
+// An Add-On write to a mailbox, which is an event of INTCSR.
+fn addon_mail(words: &mut [u32], s: Step) -> Answer
+    requires { ⌜ length (now words) ≡ 38 ⌝ }
+    requires { ⌜ (s .kind ≡ 3) × (isMailbox (s .offset) ≡ true) ⌝ }
+    ensures { λ r. ⌜ Accessed s (now (words .entry)) r (now (words .exit)) ⌝ }
+{
+    let b = bank::bank_in(words);
+    let code = refusal::access_code(b, s);
+    if code != codes::DONE {
+        return refused(b, code);
+    }
+    let a = words[bank::AINT];
+    let marks = words[bank::MARKS];
+    let changed = mailboxes::changes(s, marks);
+    let i = interrupts::notified(words[bank::INTCSR], changed);
+    mailboxes::store(words, s);
+    words[bank::MARKS] = marks ^ changed;
+    words[bank::INTCSR] = i;
+    answered(i, a, codes::DONE, 0, 0, 0, changed)
+}
+
+// The marks, if the step clears them.
+fn clear_marks(words: &mut [u32], s: Step)
+    requires { ⌜ length (now words) ≡ 38 ⌝ }
+    ensures { λ r. ⌜ Stored (marksCleared (accessOf s)) (now (words .entry)) (now (words .exit)) ⌝ }
+{
+    if commands::clears_marks(s) {
+        words[bank::MARKS] = 0;
+    }
+}
+
+// The FIFO from PCI, if the step clears it, which ends the right of read cycles.
+fn clear_from_pci(words: &mut [u32], s: Step)
+    requires { ⌜ length (now words) ≡ 38 ⌝ }
+    ensures { λ r. ⌜ Stored (pciCleared (accessOf s)) (now (words .entry)) (now (words .exit)) ⌝ }
+{
+    if commands::clears_from_pci(s) {
+        words[bank::PCI_FILL] = 0;
+        words[bank::READ_RIGHT] = 0;
+    }
+}
+
+// The FIFO from the Add-On, which ends the right of write cycles.
+fn clear_from_addon(words: &mut [u32], s: Step)
+    requires { ⌜ length (now words) ≡ 38 ⌝ }
+    ensures { λ r. ⌜ Stored (addonCleared (accessOf s)) (now (words .entry)) (now (words .exit)) ⌝ }
+{
+    if commands::clears_from_addon(s) {
+        words[bank::ADDON_FILL] = 0;
+        words[bank::WRITE_RIGHT] = 0;
+    }
+}
+
+// A done PCI write to MCSR.
+fn pci_control(words: &mut [u32], s: Step) -> Answer
+    requires { ⌜ length (now words) ≡ 38 ⌝ }
+    requires { ⌜ (s .kind ≡ 1) × (s .offset ≡ 0x3C) ⌝ }
+    ensures { λ r. ⌜ Done s (now (words .entry)) r (now (words .exit)) ⌝ }
+{
+    let i = words[bank::INTCSR];
+    let a = words[bank::AINT];
+    let m = mcsr::mcsr_after(s, words[bank::MCSR]);
+    words[bank::MCSR] = m;
+    clear_marks(words, s);
+    clear_from_pci(words, s);
+    clear_from_addon(words, s);
+    answered(i, a, codes::DONE, 0, 0, 0, 0)
+}
+
+// A done PCI write to an address or a count register.
+fn pci_transfer(words: &mut [u32], s: Step) -> Answer
+    requires { ⌜ length (now words) ≡ 38 ⌝ }
+    requires { ⌜ (s .kind ≡ 1) × ((isMailbox (s .offset) ≡ false) × ((s .offset ≡ 0x20 → ⊥) × ((s .offset ≡ 0x38 → ⊥) × (s .offset ≡ 0x3C → ⊥)))) ⌝ }
+    ensures { λ r. ⌜ Done s (now (words .entry)) r (now (words .exit)) ⌝ }
+{
+    let i = words[bank::INTCSR];
+    let a = words[bank::AINT];
+    let write_address = address::written(offsets::WRITE_ADDRESS, s, words[bank::WRITE_ADDRESS]);
+    let write_count = count::written(offsets::WRITE_COUNT, s, ByteCount(words[bank::WRITE_COUNT]));
+    let read_address = address::written(offsets::READ_ADDRESS, s, words[bank::READ_ADDRESS]);
+    let read_count = count::written(offsets::READ_COUNT, s, ByteCount(words[bank::READ_COUNT]));
+    words[bank::WRITE_ADDRESS] = write_address;
+    words[bank::WRITE_COUNT] = write_count.0;
+    words[bank::READ_ADDRESS] = read_address;
+    words[bank::READ_COUNT] = read_count.0;
+    answered(i, a, codes::DONE, 0, 0, 0, 0)
+}
+
+// A done Add-On write to AGCSTS.
+fn addon_control(words: &mut [u32], s: Step) -> Answer
+    requires { ⌜ length (now words) ≡ 38 ⌝ }
+    requires { ⌜ (s .kind ≡ 3) × ((isMailbox (s .offset) ≡ false) × ((s .offset ≡ 0x20 → ⊥) × (s .offset ≡ 0x38 → ⊥))) ⌝ }
+    ensures { λ r. ⌜ Done s (now (words .entry)) r (now (words .exit)) ⌝ }
+{
+    let i = words[bank::INTCSR];
+    let a = words[bank::AINT];
+    clear_marks(words, s);
+    clear_from_pci(words, s);
+    clear_from_addon(words, s);
+    answered(i, a, codes::DONE, 0, 0, 0, 0)
+}
+
+// A PCI write to any other register.
+fn pci_store(words: &mut [u32], s: Step) -> Answer
+    requires { ⌜ length (now words) ≡ 38 ⌝ }
+    requires { ⌜ (s .kind ≡ 1) × ((isMailbox (s .offset) ≡ false) × (s .offset ≡ 0x20 → ⊥)) ⌝ }
+    ensures { λ r. ⌜ Accessed s (now (words .entry)) r (now (words .exit)) ⌝ }
+{
+    let b = bank::bank_in(words);
+    let code = refusal::access_code(b, s);
+    if code != codes::DONE {
+        return refused(b, code);
+    }
+    if s.offset == offsets::INTERRUPTS {
+        let a = words[bank::AINT];
+        let i = interrupts::intcsr_written(words[bank::INTCSR], s);
+        words[bank::INTCSR] = i;
+        return answered(i, a, codes::DONE, 0, 0, 0, 0);
+    }
+    if s.offset == offsets::CONTROL {
+        return pci_control(words, s);
+    }
+    pci_transfer(words, s)
+}
+
+// An Add-On write to any other register: AINT, or clears by AGCSTS.
+fn addon_store(words: &mut [u32], s: Step) -> Answer
+    requires { ⌜ length (now words) ≡ 38 ⌝ }
+    requires { ⌜ (s .kind ≡ 3) × ((isMailbox (s .offset) ≡ false) × (s .offset ≡ 0x20 → ⊥)) ⌝ }
+    ensures { λ r. ⌜ Accessed s (now (words .entry)) r (now (words .exit)) ⌝ }
+{
+    let b = bank::bank_in(words);
+    let code = refusal::access_code(b, s);
+    if code != codes::DONE {
+        return refused(b, code);
+    }
+    if s.offset == offsets::INTERRUPTS {
+        let i = words[bank::INTCSR];
+        let a = interrupts::aint_written(words[bank::AINT], s);
+        words[bank::AINT] = a;
+        return answered(i, a, codes::DONE, 0, 0, 0, 0);
+    }
+    addon_control(words, s)
+}
+
+// ---- cycles and the reset
 
 // A write cycle: the front word of the FIFO from the Add-On goes to the memory. Done where MCSR asks for four, it had them or the right.
-fn write_cycle(b: Bank, addon: &[u32], memory: &mut [u32], start: u32) -> Banked
-    ensures { λ r. ⌜ ((mail pci : List ℕ) → Cycled sides.addon (stateIn b mail pci (now (addon .entry))) start (now (memory .entry)) (outcomeIn r mail pci (now (addon .entry)) (now (memory .exit)))) ⌝ }
+fn write_cycle(words: &mut [u32], memory: &mut [u32], start: u32) -> Answer
+    requires { ⌜ length (now words) ≡ 38 ⌝ }
+    ensures { λ r. ⌜ Cycled sides.addon (now (words .entry)) start (now (memory .entry)) r (now (words .exit)) (now (memory .exit)) ⌝ }
 {
+    let b = bank::bank_in(words);
     let code = refusal::write_cycle_code(b, start, memory.len());
-    let address = b.write_address;
+    let address = words[bank::WRITE_ADDRESS];
     if code == codes::NO_MEMORY_THERE {
-        return aborted(b, address);
+        return aborted(words, address);
     }
     if code != codes::DONE {
-        return answered(b, code, 0, 0, 0, 0);
+        return refused(b, code);
     }
     let at = address::place(start, address) as usize;
-    let x = fifo::front(addon, b.addon_head);
-    let e = count::low_enables(b.write_count);
+    let head = words[bank::ADDON_HEAD];
+    let front = fifo::front_place(head);
+    let x = words[bank::ADDON_AT + front];
+    let count = ByteCount(words[bank::WRITE_COUNT]);
+    let e = count::low_enables(count);
     memory[at] = word::merged(memory[at], x, e);
-    let h = fifo::past(b.addon_head);
-    let n = fifo::one_less(b.addon_fill);
-    let i = interrupts::after_write_cycle(b.intcsr, b.write_count);
-    let a = interrupts::after_write_cycle(b.aint, b.write_count);
-    let less = count::count_left(b.write_count);
+    let h = fifo::past(head);
+    let n = fifo::one_less(WordFill(words[bank::ADDON_FILL]));
+    let i = interrupts::after_write_cycle(words[bank::INTCSR], count);
+    let a = interrupts::after_write_cycle(words[bank::AINT], count);
+    let less = count::count_left(count);
     let on = address::next_address(address);
-    let four = word::bit(b.mcsr, mcsr::WRITE_FOUR);
-    let right = b.write_right | four;
-    let mut next = b;
-    next.addon_head = h;
-    next.addon_fill = n;
-    next.write_address = on;
-    next.write_count = less;
-    next.write_right = right;
-    next.intcsr = i;
-    next.aint = a;
-    answered(next, codes::DONE, address, x, e, 0)
+    let four = word::bit(words[bank::MCSR], mcsr::WRITE_FOUR);
+    let right = bank::one_if(b.write_right | four);
+    words[bank::INTCSR] = i;
+    words[bank::AINT] = a;
+    words[bank::WRITE_ADDRESS] = on;
+    words[bank::WRITE_COUNT] = less.0;
+    words[bank::ADDON_HEAD] = h;
+    words[bank::ADDON_FILL] = n.0;
+    words[bank::WRITE_RIGHT] = right;
+    answered(i, a, codes::DONE, address, x, e, 0)
 }
 
 // A read cycle: a word of the memory goes into the FIFO from PCI; its right likewise.
-fn read_cycle(b: Bank, pci: &mut [u32], memory: &[u32], start: u32) -> Banked
-    requires { ⌜ length (now pci) ≡ 8 ⌝ }
-    ensures { λ r. ⌜ ((mail addon : List ℕ) → Cycled sides.pci (stateIn b mail (now (pci .entry)) addon) start (now (memory .entry)) (outcomeIn r mail (now (pci .exit)) addon (now (memory .entry)))) ⌝ }
+fn read_cycle(words: &mut [u32], memory: &[u32], start: u32) -> Answer
+    requires { ⌜ length (now words) ≡ 38 ⌝ }
+    ensures { λ r. ⌜ Cycled sides.pci (now (words .entry)) start (now (memory .entry)) r (now (words .exit)) (now (memory .entry)) ⌝ }
 {
+    let b = bank::bank_in(words);
     let code = refusal::read_cycle_code(b, start, memory.len());
-    let address = b.read_address;
+    let address = words[bank::READ_ADDRESS];
     if code == codes::NO_MEMORY_THERE {
-        return aborted(b, address);
+        return aborted(words, address);
     }
     if code != codes::DONE {
-        return answered(b, code, 0, 0, 0, 0);
+        return refused(b, code);
     }
     let at = address::place(start, address) as usize;
-    let e = count::low_enables(b.read_count);
+    let count = ByteCount(words[bank::READ_COUNT]);
+    let e = count::low_enables(count);
     let x = word::shown(memory[at], e);
-    fifo::push(pci, b.pci_head, b.pci_fill, x);
-    let n = fifo::one_more(b.pci_fill);
-    let i = interrupts::after_read_cycle(b.intcsr, b.read_count);
-    let a = interrupts::after_read_cycle(b.aint, b.read_count);
-    let less = count::count_left(b.read_count);
+    let fill = WordFill(words[bank::PCI_FILL]);
+    let free = fifo::free_place(words[bank::PCI_HEAD], fill);
+    let n = fifo::one_more(fill);
+    let i = interrupts::after_read_cycle(words[bank::INTCSR], count);
+    let a = interrupts::after_read_cycle(words[bank::AINT], count);
+    let less = count::count_left(count);
     let on = address::next_address(address);
-    let four = word::bit(b.mcsr, mcsr::READ_FOUR);
-    let right = b.read_right | four;
-    let mut next = b;
-    next.pci_fill = n;
-    next.read_address = on;
-    next.read_count = less;
-    next.read_right = right;
-    next.intcsr = i;
-    next.aint = a;
-    answered(next, codes::DONE, address, x, e, 0)
+    let four = word::bit(words[bank::MCSR], mcsr::READ_FOUR);
+    let right = bank::one_if(b.read_right | four);
+    words[bank::PCI_AT + free] = x;
+    words[bank::INTCSR] = i;
+    words[bank::AINT] = a;
+    words[bank::READ_ADDRESS] = on;
+    words[bank::READ_COUNT] = less.0;
+    words[bank::PCI_FILL] = n.0;
+    words[bank::READ_RIGHT] = right;
+    answered(i, a, codes::DONE, address, x, e, 0)
 }
 
-// A chip reset.
-fn reset(mail: &mut [u32]) -> Banked
-    requires { ⌜ length (now mail) ≡ 8 ⌝ }
-    ensures { λ r. ⌜ ((pci addon : List ℕ) → (stateIn (r .bank) (now (mail .exit)) pci addon ≡ resetState) × (r .answer ≡ answered resetState 0 nothing)) ⌝ }
+// A chip reset: every word is zero.
+fn reset(words: &mut [u32]) -> Answer
+    requires { ⌜ length (now words) ≡ 38 ⌝ }
+    ensures { λ r. ⌜ (now (words .exit) ≡ replicate 38 0) × (r ≡ answered resetState 0 nothing) ⌝ }
 {
-    mail[0] = 0;
-    mail[1] = 0;
-    mail[2] = 0;
-    mail[3] = 0;
-    mail[4] = 0;
-    mail[5] = 0;
-    mail[6] = 0;
-    mail[7] = 0;
-    let b = Bank {
-        marks: 0,
-        intcsr: 0,
-        mcsr: 0,
-        aint: 0,
-        read_address: 0,
-        read_count: ByteCount(0),
-        read_right: false,
-        pci_head: 0,
-        pci_fill: WordFill(0),
-        write_address: 0,
-        write_count: ByteCount(0),
-        write_right: false,
-        addon_head: 0,
-        addon_fill: WordFill(0),
-    };
-    answered(b, codes::DONE, 0, 0, 0, 0)
+    let mut i = 0;
+    while i < words.len() {
+        words[i] = 0;
+        i += 1;
+    }
+    answered(0, 0, codes::DONE, 0, 0, 0, 0)
 }
 
 // ---- the step
 
-// A step on words of the lengths that they must have, by the code of form that it is told, before rights end.
-fn by_kind(
-    b: Bank,
-    mail: &mut [u32],
-    pci: &mut [u32],
-    addon: &mut [u32],
-    memory: &mut [u32],
-    start: u32,
-    form: u32,
-    s: Step,
-) -> Banked
-    requires { ⌜ (length (now mail) ≡ 8) × ((length (now pci) ≡ 8) × (length (now addon) ≡ 8)) ⌝ }
-    ensures { λ r. ⌜ settledOutcome (outcomeIn r (now (mail .exit)) (now (pci .exit)) (now (addon .exit)) (now (memory .exit))) ≡ toldStep form (stateIn b (now (mail .entry)) (now (pci .entry)) (now (addon .entry))) start (now (memory .entry)) s ⌝ }
+// A PCI write.
+fn pci_write(words: &mut [u32], s: Step) -> Answer
+    requires { ⌜ length (now words) ≡ 38 ⌝ }
+    requires { ⌜ s .kind ≡ 1 ⌝ }
+    ensures { λ r. ⌜ Accessed s (now (words .entry)) r (now (words .exit)) ⌝ }
 {
-    if form != codes::DONE {
-        return answered(b, form, 0, 0, 0, 0);
+    if s.offset == offsets::FIFO_PORT {
+        return pci_push(words, s);
     }
+    if mailboxes::is_mailbox(s.offset) {
+        return pci_mail(words, s);
+    }
+    pci_store(words, s)
+}
+
+// An Add-On write.
+fn addon_write(words: &mut [u32], s: Step) -> Answer
+    requires { ⌜ length (now words) ≡ 38 ⌝ }
+    requires { ⌜ s .kind ≡ 3 ⌝ }
+    ensures { λ r. ⌜ Accessed s (now (words .entry)) r (now (words .exit)) ⌝ }
+{
+    if s.offset == offsets::FIFO_PORT {
+        return addon_push(words, s);
+    }
+    if mailboxes::is_mailbox(s.offset) {
+        return addon_mail(words, s);
+    }
+    addon_store(words, s)
+}
+
+// A PCI read.
+fn pci_read(words: &mut [u32], s: Step) -> Answer
+    requires { ⌜ length (now words) ≡ 38 ⌝ }
+    requires { ⌜ s .kind ≡ 0 ⌝ }
+    ensures { λ r. ⌜ Accessed s (now (words .entry)) r (now (words .exit)) ⌝ }
+{
+    if s.offset == offsets::FIFO_PORT {
+        return pci_pop(words, s);
+    }
+    pci_look(words, s)
+}
+
+// An Add-On read.
+fn addon_read(words: &mut [u32], s: Step) -> Answer
+    requires { ⌜ length (now words) ≡ 38 ⌝ }
+    requires { ⌜ s .kind ≡ 2 ⌝ }
+    ensures { λ r. ⌜ Accessed s (now (words .entry)) r (now (words .exit)) ⌝ }
+{
+    if s.offset == offsets::FIFO_PORT {
+        return addon_pop(words, s);
+    }
+    addon_look(words, s)
+}
+
+// A kind that there is not.
+fn unknown(words: &[u32]) -> Answer
+    ensures { λ r. ⌜ r ≡ answered (stateOfWords (now (words .entry))) 3 nothing ⌝ }
+{
+    let b = bank::bank_in(words);
+    refused(b, codes::UNKNOWN_STEP)
+}
+
+// A step whose state and window are in form, before rights end.
+fn by_kind(words: &mut [u32], memory: &mut [u32], start: u32, s: Step) -> Answer
+    requires { ⌜ length (now words) ≡ 38 ⌝ }
+    ensures { λ r. ⌜ Kind (now (words .entry)) start (now (memory .entry)) s r (now (words .exit)) (now (memory .exit)) ⌝ }
+{
     let kind = s.kind;
     match kind {
-        0 => pci_read(b, mail, addon, s),
-        1 => pci_write(b, mail, pci, s),
-        2 => addon_read(b, mail, pci, s),
-        3 => addon_write(b, mail, addon, s),
-        4 => write_cycle(b, addon, memory, start),
-        5 => read_cycle(b, pci, memory, start),
-        6 => reset(mail),
-        _ => answered(b, codes::UNKNOWN_STEP, 0, 0, 0, 0),
+        0 => pci_read(words, s),
+        1 => pci_write(words, s),
+        2 => addon_read(words, s),
+        3 => addon_write(words, s),
+        4 => write_cycle(words, memory, start),
+        5 => read_cycle(words, memory, start),
+        6 => reset(words),
+        _ => unknown(words),
     }
 }
 
-// What is left once rights have ended that met an end, if the step is done. Mostly none stands.
-fn settled(r: Banked) -> Banked
-    ensures { λ q. ⌜ ((mail pci addon memory : List ℕ) → outcomeIn q mail pci addon memory ≡ settledOutcome (outcomeIn r mail pci addon memory)) ⌝ }
+// Rights end that met an end, if the step is done. Mostly none stands.
+fn settle(words: &mut [u32], code: u32)
+    requires { ⌜ length (now words) ≡ 38 ⌝ }
+    ensures { λ r. ⌜ Settled code (now (words .entry)) (now (words .exit)) ⌝ }
 {
-    let b = r.bank;
-    let answer = r.answer;
+    let b = bank::bank_in(words);
     if !(b.read_right | b.write_right) {
-        let bank = bank::copied(b);
-        return Banked { bank, answer };
+        return;
     }
-    if answer.code != codes::DONE {
-        return r;
+    if code != codes::DONE {
+        return;
     }
-    let bank = rights::settled(b);
-    Banked { bank, answer }
+    let read = bank::one_if(b.read_right & !rights::is_read_ended(b));
+    let write = bank::one_if(b.write_right & !rights::is_write_ended(b));
+    words[bank::READ_RIGHT] = read;
+    words[bank::WRITE_RIGHT] = write;
 }
 
-// One step: by `form`, a caller asks `refusal::form` once for many steps. Words of another length than eight are a state out of form.
-pub fn in_bank(
-    b: Bank,
-    mail: &mut [u32],
-    pci: &mut [u32],
-    addon: &mut [u32],
-    memory: &mut [u32],
-    start: u32,
-    form: u32,
-    s: Step,
-) -> Banked
-    ensures { λ r. ⌜ InBank b (now (mail .entry)) (now (pci .entry)) (now (addon .entry)) (now (memory .entry)) start form s r (now (mail .exit)) (now (pci .exit)) (now (addon .exit)) (now (memory .exit)) ⌝ }
+// One step on a controller that stands as words: by `form`, a caller asks `refusal::form` once for many steps. Another number of words is a state out of form.
+pub fn in_words(words: &mut [u32], memory: &mut [u32], start: u32, form: u32, s: Step) -> Answer
+    ensures { λ r. ⌜ InWords (now (words .entry)) (now (memory .entry)) start form s r (now (words .exit)) (now (memory .exit)) ⌝ }
 {
-    if mail.len() != RUN {
-        return answered(b, codes::STATE_OUT_OF_FORM, 0, 0, 0, 0);
+    if words.len() != bank::WORDS {
+        return out_of_form();
     }
-    if pci.len() != RUN {
-        return answered(b, codes::STATE_OUT_OF_FORM, 0, 0, 0, 0);
+    if form != codes::DONE {
+        let b = bank::bank_in(words);
+        return refused(b, form);
     }
-    if addon.len() != RUN {
-        return answered(b, codes::STATE_OUT_OF_FORM, 0, 0, 0, 0);
-    }
-    let r = by_kind(b, mail, pci, addon, memory, start, form, s);
-    settled(r)
+    let a = by_kind(words, memory, start, s);
+    settle(words, a.code);
+    a
 }
 
 // One step: every controller, memory, start and numbers have an answer, and a refusal leaves the controller as it was.
 pub fn step(c: Controller, memory: &mut [u32], start: u32, s: Step) -> Stepped
     ensures { λ r. ⌜ StepPromised c start (now (memory .entry)) s r (now (memory .exit)) ⌝ }
 {
-    let mut mail = bank::mail_of(c);
-    let mut pci = bank::pci_of(c);
-    let mut addon = bank::addon_of(c);
-    let b = bank::bank_of(c);
+    let mut words = bank::words_of(c);
+    let b = bank::bank_in(&words);
     let form = refusal::form(b, start, memory.len());
-    let r = in_bank(b, &mut mail, &mut pci, &mut addon, memory, start, form, s);
-    let answer = r.answer;
+    let answer = in_words(&mut words, memory, start, form, s);
     if (answer.code != codes::DONE) & (answer.code != codes::NO_MEMORY_THERE) {
         return Stepped {
             controller: c,
             answer,
         };
     }
-    let controller = bank::controller_of(r.bank, mail, pci, addon);
+    let controller = bank::controller_of(words);
     Stepped { controller, answer }
 }

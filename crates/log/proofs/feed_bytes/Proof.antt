@@ -6,9 +6,9 @@ use native.Mathlib.Omega.{arith}
 use lib.ListN.{length, take, drop}
 use Rattle.machine.specs.declared.Answer.{Answer}
 use Rattle.machine.specs.Step.{Outcome}
-use Rattle.controller.specs.Controller.{stateOf}
-use Rattle.bank.specs.Bank.{stateIn}
+use Rattle.bank.specs.Words.{mailIn, pciIn, addonIn, stateOfWords}
 use Rattle.refusal.specs.Codes.{formCode}
+use Rattle.step.proofs.Answers.{at-words}
 use Rattle.logline.specs.LogLine.{lineRoom}
 use Rattle.logline.specs.Wrote.{Wrote}
 use Rattle.logline.proofs.Room.{in-room}
@@ -24,22 +24,25 @@ use Rattle.log.proofs.feed_bytes.Statement.{statement}
 use Rattle.log.proofs.feed_bytes.Tie as tie
 
 abbrev Inv-loop : tie.InvT-loop
-Inv-loop memory₀ start piece out₀ at set mail₀ pci₀ addon₀ b₀ form bytes₀ len₀ n₀ i₀ memory out mail pci addon b bytes len n i =
+Inv-loop memory₀ start piece out₀ at set words₀ form bytes₀ len₀ n₀ i₀ memory out words bytes len n i =
     (done : List Answer)
     × (i ≤ length piece) × (len ≤ 14) × (length bytes ≡ 14) × (length out ≡ length out₀)
     × (length memory ≡ length memory₀)
     × Wrote out₀ at (logOf set done) n out
-    × (pieceOutcome (stateIn b₀ mail₀ pci₀ addon₀) start memory₀ (take len₀ bytes₀) piece ≡ afterFed done (pieceOutcome (stateIn b mail pci addon) start memory (take len bytes) (drop i piece)))
-    × ((length mail ≡ 8) × ((length pci ≡ 8) × (length addon ≡ 8)))
-    × (form ≡ formCode (stateIn b mail pci addon) start (length memory))
+    × (pieceOutcome (stateOfWords words₀) start memory₀ (take len₀ bytes₀) piece ≡ afterFed done (pieceOutcome (stateOfWords words) start memory (take len bytes) (drop i piece)))
+    × (length words ≡ 38)
+    × (form ≡ formCode (stateOfWords words) start (length memory))
 
 abbrev μ-loop : tie.MeasureT-loop
-μ-loop memory₀ start piece out₀ at set mail₀ pci₀ addon₀ b₀ form bytes₀ len₀ n₀ i₀ memory out mail pci addon b bytes len n i = length piece - i
+μ-loop memory₀ start piece out₀ at set words₀ form bytes₀ len₀ n₀ i₀ memory out words bytes len n i = length piece - i
 
 loop-holds : tie.Need-loop-holds Inv-loop μ-loop
 unfolding logOf
 loop-holds c =
-    let s = c .before .before .before .before .before .before .before .before .before .before .before in (
+    let s = c .before .before .before .before .before .before .before .before .before in
+    let w = c .before .before .before .before .before .words-of in
+    let b = c .before .before .before .bank-in in
+    let l = w .result in (
       [],
       omega arith,
       omega (arith, c .kept .ensures),
@@ -48,8 +51,8 @@ loop-holds c =
       refl,
       wrote-none,
       refl,
-      (c .before .before .before .before .before .before .mail-of .ensures .1, (c .before .before .before .before .before .pci-of .ensures .1, c .before .before .before .before .addon-of .ensures .1)),
-      c .before .before .form .ensures (c .before .before .before .before .before .before .mail-of .result) (c .before .before .before .before .before .pci-of .result) (c .before .before .before .before .addon-of .result),
+      w .ensures .0,
+      c .before .before .form .ensures (mailIn l) (pciIn l) (addonIn l) ∙ (λ i. formCode (at-words l (b .result) (b .ensures) i) (s .args .start) (length (now (s .args .memory)))),
     )
 
 slice-aggregate-taken : tie.Need-slice-aggregate-taken Inv-loop μ-loop
@@ -58,54 +61,47 @@ slice-aggregate-taken c = sym (c .before .before .loop .inv .3)
 taken-requires : tie.Need-taken-requires Inv-loop μ-loop
 taken-requires c κs = (c .before .loop-test .taken, (c .before .before .loop .inv .2, c .before .before .loop .inv .3))
 
-slice-aggregate-banked : tie.Need-slice-aggregate-banked Inv-loop μ-loop
-slice-aggregate-banked c = sym (c .before .before .before .before .before .before .loop .inv .8 .0)
+slice-aggregate-answer-words : tie.Need-slice-aggregate-answer-words Inv-loop μ-loop
+slice-aggregate-answer-words c = sym (c .before .before .before .before .before .before .loop .inv .8)
 
-slice-aggregate-banked-2 : tie.Need-slice-aggregate-banked-2 Inv-loop μ-loop
-slice-aggregate-banked-2 c = sym (c .before .before .before .before .before .before .before .loop .inv .8 .1 .0)
-
-slice-aggregate-banked-3 : tie.Need-slice-aggregate-banked-3 Inv-loop μ-loop
-slice-aggregate-banked-3 c = sym (c .before .before .before .before .before .before .before .before .loop .inv .8 .1 .1)
-
-banked-requires : tie.Need-banked-requires Inv-loop μ-loop
-banked-requires c κs = (c .before .before .before .before .before .before .before .before .before .loop .inv .8, c .before .before .before .before .before .before .before .before .before .loop .inv .9)
+answer-words-requires : tie.Need-answer-words-requires Inv-loop μ-loop
+answer-words-requires c κs = (c .before .before .before .before .before .before .before .loop .inv .8, c .before .before .before .before .before .before .before .loop .inv .9)
 
 loop-less : tie.Need-loop-less Inv-loop μ-loop
-loop-less c = omega (arith, c .before .before .before .before .before .before .before .before .before .before .before .before .before .before .before .before .before .taken .ensures .above, c .before .before .before .before .before .before .before .before .before .before .before .before .before .before .before .before .before .taken .ensures .within)
+loop-less c = omega (arith, c .before .before .before .before .before .before .before .before .before .before .before .before .taken .ensures .above, c .before .before .before .before .before .before .before .before .before .before .before .before .taken .ensures .within)
 
 loop-again : tie.Need-loop-again Inv-loop μ-loop
 unfolding begunOf
 loop-again c =
     let p = c .before .before in
-    let r = c .before .before .before .before .before .before .before .before .before .before in
-    let i = c .before .before .before .before .before .before .before .before .before .before .before .before .before .before .before in
-    let g = c .before .before .before .before .before .before .before .before .before .before .before .before .before .before .before .before .before in
-    let l = c .before .before .before .before .before .before .before .before .before .before .before .before .before .before .before .before .before .before .before .before in
-    let s = c .before .before .before .before .before .before .before .before .before .before .before .before .before .before .before .before .before .before .before .before .before .before .before .before .before .before .before .before .before .before .before .before in
+    let r = c .before .before .before .before .before .before .before in
+    let i = c .before .before .before .before .before .before .before .before .before .before in
+    let g = c .before .before .before .before .before .before .before .before .before .before .before .before in
+    let l = c .before .before .before .before .before .before .before .before .before .before .before .before .before .before .before in
+    let s = c .before .before .before .before .before .before .before .before .before .before .before .before .before .before .before .before .before .before .before .before .before .before .before .before .before in
     let a = s .args in
     let v = l .loop .inv in
     let T = g .taken .ensures in
-    let st = stateIn (l .loop .b) (l .loop .mail) (l .loop .pci) (l .loop .addon) in
-    let begin : stateIn (c .before .before .before .before .before .before .before .before .before .before .before .before .before .before .before .before .before .before .before .before .before .before .before .before .bank-of .result) (c .before .before .before .before .before .before .before .before .before .before .before .before .before .before .before .before .before .before .before .before .before .before .before .before .before .before .before .mail-of .result) (c .before .before .before .before .before .before .before .before .before .before .before .before .before .before .before .before .before .before .before .before .before .before .before .before .before .before .pci-of .result) (c .before .before .before .before .before .before .before .before .before .before .before .before .before .before .before .before .before .before .before .before .before .before .before .before .before .addon-of .result) ≡ stateOf (a .s .controller) =
-    rw (c .before .before .before .before .before .before .before .before .before .before .before .before .before .before .before .before .before .before .before .before .before .before .before .before .before .before .before .mail-of .ensures .0, c .before .before .before .before .before .before .before .before .before .before .before .before .before .before .before .before .before .before .before .before .before .before .before .before .before .before .pci-of .ensures .0, c .before .before .before .before .before .before .before .before .before .before .before .before .before .before .before .before .before .before .before .before .before .before .before .before .before .addon-of .ensures .0) (c .before .before .before .before .before .before .before .before .before .before .before .before .before .before .before .before .before .before .before .before .before .before .before .before .bank-of .ensures) in
-    let fed = v .7 ∙ turn-ended T st (a .start) (l .loop .memory) (v .0) (i .if1 .taken) _ (r .banked .ensures) in
-    let kept = sym (clip (a .s .bytes) (bytes-length (a .s) (s .good .0)) (a .s .len)) ∙ ap (λ (n : ℕ). take n (a .s .bytes)) (sym (c .before .before .before .before .before .before .before .before .before .before .before .before .before .before .before .before .before .before .before .before .before .kept .ensures)) in
+    let st = stateOfWords (l .loop .words) in
+    let begin = c .before .before .before .before .before .before .before .before .before .before .before .before .before .before .before .before .before .before .before .before .before .words-of .ensures .1 .1 in
+    let fed = v .7 ∙ turn-ended T st (a .start) (l .loop .memory) (v .0) (i .if1 .taken) _ (r .answer-words .ensures) in
+    let kept = sym (clip (a .s .bytes) (bytes-length (a .s) (s .good .0)) (a .s .len)) ∙ ap (λ (n : ℕ). take n (a .s .bytes)) (sym (l .before .kept .ensures)) in
     let more = rw (← kept, begin) at (more-answers _ (v .0) _ _ fed) in
     let room : l .loop .n + lineRoom ≤ length (l .loop .out) = omega (arith, s .pre, v .6 .next, log-length (a .set) (v .0), more, v .4) in
-    let one = r .banked .result .answer in
+    let one = r .answer-words .result in
     let w = rw (in-room (a .set) (l .loop .out) (l .loop .n) one room, ← log-one (a .set) one) at (p .put-line .ensures) in
-    let same = r .banked .kept .1 in (
+    let same = r .answer-words .kept in (
       v .0 ++ (one ∷ []),
       T .within,
       T .few,
       T .whole,
       p .put-line .kept .0 ∙ v .4,
-      same .1 .1 .1 .0 ∙ v .5,
+      same .1 .0 ∙ v .5,
       rw log-append (wrote-then (v .6) w),
       fed,
-      (same .0 ∙ v .8 .0, (same .1 .0 ∙ v .8 .1 .0, same .1 .1 .0 ∙ v .8 .1 .1)),
-      rw (same .1 .1 .1 .0)
-          (v .9 ∙ sym (framed-form (g .taken .result .framed) st (a .start) (l .loop .memory)) ∙ ap (λ (o : Outcome). formCode (o .state) (a .start) (length (l .loop .memory))) (sym (r .banked .ensures))),
+      same .0 ∙ v .8,
+      rw (same .1 .0)
+          (v .9 ∙ sym (framed-form (g .taken .result .framed) st (a .start) (l .loop .memory)) ∙ ap (λ (o : Outcome). formCode (o .state) (a .start) (length (l .loop .memory))) (sym (r .answer-words .ensures))),
     )
 
 loop-less-2 : tie.Need-loop-less-2 Inv-loop μ-loop
@@ -115,11 +111,10 @@ loop-again-2 : tie.Need-loop-again-2 Inv-loop μ-loop
 loop-again-2 c =
     let g = c .before .before in
     let l = c .before .before .before .before .before in
-    let a = c .before .before .before .before .before .before .before .before .before .before .before .before .before .before .before .before .before .args in
+    let a = c .before .before .before .before .before .before .before .before .before .before .before .before .before .before .before .args in
     let v = l .loop .inv in
     let T = g .taken .ensures in
-    let st = stateIn (l .loop .b) (l .loop .mail) (l .loop .pci) (l .loop .addon) in
-    (v .0, T .within, T .few, T .whole, v .4, v .5, v .6, v .7 ∙ turn-on T st (a .start) (l .loop .memory) (v .0) (c .if1 .left), v .8, v .9)
+    (v .0, T .within, T .few, T .whole, v .4, v .5, v .6, v .7 ∙ turn-on T (stateOfWords (l .loop .words)) (a .start) (l .loop .memory) (v .0) (c .if1 .left), v .8, v .9)
 
 same-length : tie.Need-same-length Inv-loop μ-loop
 same-length c = c .before .before .loop .inv .5
@@ -131,12 +126,11 @@ returns : tie.Need-returns Inv-loop μ-loop
 unfolding begunOf
 returns c =
     let l = c .before .before in
-    let s = c .before .before .before .before .before .before .before .before .before .before .before .before .before .before in
+    let s = c .before .before .before .before .before .before .before .before .before .before .before .before in
     let a = s .args in
     let v = l .loop .inv in
-    let st = stateIn (l .loop .b) (l .loop .mail) (l .loop .pci) (l .loop .addon) in
-    let begin : stateIn (c .before .before .before .before .before .before .bank-of .result) (c .before .before .before .before .before .before .before .before .before .mail-of .result) (c .before .before .before .before .before .before .before .before .pci-of .result) (c .before .before .before .before .before .before .before .addon-of .result) ≡ stateOf (a .s .controller) =
-    rw (c .before .before .before .before .before .before .before .before .before .mail-of .ensures .0, c .before .before .before .before .before .before .before .before .pci-of .ensures .0, c .before .before .before .before .before .before .before .addon-of .ensures .0) (c .before .before .before .before .before .before .bank-of .ensures) in
+    let st = stateOfWords (l .loop .words) in
+    let begin = c .before .before .before .before .before .before .before .before .words-of .ensures .1 .1 in
     let kept = sym (clip (a .s .bytes) (bytes-length (a .s) (s .good .0)) (a .s .len)) ∙ ap (λ (k : ℕ). take k (a .s .bytes)) (sym (c .before .before .before .kept .ensures)) in
     let e = v .7 ∙ fed-none st (a .start) (l .loop .memory) (take (l .loop .len) (l .loop .bytes)) (now (a .piece)) (v .0) (l .loop .i) (c .before .loop-test .left) in
     rw (kept, ← begin, e) (record { state = c .controller-of .ensures; memory = refl; begun = refl; log = v .6 })
@@ -148,18 +142,15 @@ feed-bytes-spec =
     Inv-loop
     μ-loop
     (λ c κs. search needs)
-    (λ c κs. search needs)
-    (λ c κs. search needs)
+    (λ c. sym (c .before .words-of .ensures .0))
     (λ c κs. search needs)
     (λ c κs. search needs)
     (λ c κs. search needs)
     loop-holds
     slice-aggregate-taken
     taken-requires
-    slice-aggregate-banked
-    slice-aggregate-banked-2
-    slice-aggregate-banked-3
-    banked-requires
+    slice-aggregate-answer-words
+    answer-words-requires
     (λ c κs. search needs)
     loop-less
     loop-again

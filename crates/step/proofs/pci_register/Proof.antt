@@ -5,6 +5,8 @@ use borrow.Author.Tests.{ne-eqb}
 use Rattle.machine.specs.Offsets.{isMailbox}
 use Rattle.machine.specs.Step.{register}
 use Rattle.bank.specs.Bank.{stateIn}
+use Rattle.bank.specs.Words.{mailIn}
+use Rattle.step.proofs.Answers.{mail-word-in}
 use borrow.Author.Needs.{needs}
 use Rattle.step.proofs.pci_register.Statement.{statement}
 use Rattle.step.proofs.pci_register.Tie as tie
@@ -13,7 +15,7 @@ returns : tie.Need-returns
 unfolding stateIn register
 returns c = λ pci addon.
     let box : isMailbox (c .before .before .before .before .args .offset) ≡ true = sym (c .before .before .is-mailbox .ensures) ∙ c .before .if1 .taken in
-    simp (box, c .mail-word .ensures)
+    simp (box, c .mail-word .ensures, mail-word-in (now (c .before .before .before .before .args .words)) (c .before .before .before .before .args .offset) box)
 
 returns-2 : tie.Need-returns-2
 unfolding stateIn register
@@ -44,7 +46,7 @@ unfolding register
 returns-8 c = λ pci addon.
     let m = c .before .before .before .before .before .before .before .before in
     let none : isMailbox (m .before .before .args .offset) ≡ false = sym (m .is-mailbox .ensures) ∙ c .before .before .before .before .before .before .before .if1 .left in
-    simp (none, ne-eqb _ _ (c .before .if7 .left), ne-eqb _ _ (c .before .before .if6 .left), ne-eqb _ _ (c .before .before .before .if5 .left), ne-eqb _ _ (c .before .before .before .before .if4 .left), ne-eqb _ _ (c .before .before .before .before .before .if3 .left), ne-eqb _ _ (c .before .before .before .before .before .before .if2 .left), c .mcsr-read .ensures (now (m .before .before .args .mail)) pci addon)
+    simp (none, ne-eqb _ _ (c .before .if7 .left), ne-eqb _ _ (c .before .before .if6 .left), ne-eqb _ _ (c .before .before .before .if5 .left), ne-eqb _ _ (c .before .before .before .before .if4 .left), ne-eqb _ _ (c .before .before .before .before .before .if3 .left), ne-eqb _ _ (c .before .before .before .before .before .before .if2 .left), c .mcsr-read .ensures (mailIn (now (m .before .before .args .words))) pci addon)
 
 pub pci-register-spec : {M : Type 1} → statement M
 pci-register-spec =

@@ -1,18 +1,58 @@
 use denote.Ref.{now}
-use mathlib.Core.List.{[]}
+use Prim.Native.Nat.{ℕ, _-_, _≤_}
+use mathlib.Core.Path.{_≡_, refl, sym, ap, _∙_}
+use mathlib.Core.List.{List, [], _∷_, _++_}
+use native.Mathlib.Numerals.{add-one}
 use native.Mathlib.Omega.{arith}
-use lib.ListN.{length-set}
-use Rattle.machine.specs.Step.{answered}
-use Rattle.fifo.specs.Ring.{from}
-use Rattle.bank.specs.Bank.{stateIn}
-use Rattle.step.proofs.Cycles.{eight-zeros}
+use lib.ListN.{length, take, replicate, length-set, replicate-append-replicate}
+use lib.Seq.{take-all, take-suc-set}
+use Rattle.machine.specs.State.{resetState}
 use borrow.Author.Needs.{needs}
 use Rattle.step.proofs.reset.Statement.{statement}
 use Rattle.step.proofs.reset.Tie as tie
 
-returns : tie.Need-returns
-unfolding stateIn from answered
-returns c = λ pci addon. (rw (c .answered .ensures .0, eight-zeros (now (c .before .before .args .mail)) (c .before .before .pre)), c .answered .ensures .1 [] [] [])
+abbrev Inv-loop : tie.InvT-loop
+Inv-loop words₀ i₀ words i = (length words ≡ 38) × (i ≤ 38) × (take i words ≡ replicate i 0)
+
+abbrev μ-loop : tie.MeasureT-loop
+μ-loop words₀ i₀ words i = 38 - i
+
+loop-holds : tie.Need-loop-holds Inv-loop μ-loop
+loop-holds c = (c .before .pre, omega arith, refl)
+
+mul-words : tie.Need-mul-words Inv-loop μ-loop
+mul-words c = search needs
+
+slice-write-words : tie.Need-slice-write-words Inv-loop μ-loop
+slice-write-words c = search needs
+
+add-i : tie.Need-add-i Inv-loop μ-loop
+add-i c = search needs
+
+loop-less : tie.Need-loop-less Inv-loop μ-loop
+loop-less c = omega (arith, c .loop-test .taken, c .before .loop .inv .0)
+
+loop-again : tie.Need-loop-again Inv-loop μ-loop
+loop-again c =
+    let l = c .before .loop in
+    let here = c .loop-test .taken in (
+      length-set (l .words) (l .i) 0 ∙ l .inv .0,
+      omega (arith, here, l .inv .0),
+      rw add-one (take-suc-set (l .words) (l .i) 0 here ∙ ap (λ (t : List ℕ). t ++ (0 ∷ [])) (l .inv .2) ∙ replicate-append-replicate (l .i) 1 0 ∙ ap (λ n. replicate n 0) (add-one (l .i))),
+    )
+
+answered-requires : tie.Need-answered-requires Inv-loop μ-loop
+answered-requires c κs = search needs
+
+same-length : tie.Need-same-length Inv-loop μ-loop
+same-length c = c .before .before .loop .inv .0 ∙ sym (c .before .before .before .before .pre)
+
+returns : tie.Need-returns Inv-loop μ-loop
+returns c =
+    let l = c .before .before .loop in
+    let end : l .i ≡ 38 = omega (arith, l .inv .0, l .inv .1, c .before .loop-test .left) in
+    (sym (take-all (l .i) (l .words) (omega (arith, end, l .inv .0))) ∙ l .inv .2 ∙ ap (λ n. replicate n 0) end, c .answered .ensures resetState refl refl)
 
 pub reset-spec : {M : Type 1} → statement M
-reset-spec = tie.close (tie.spec (λ c. search needs) (λ c. search needs) (λ c. search needs) (λ c. search needs) (λ c. simp length-set (omega (arith, c .before .pre))) (λ c. simp length-set (omega (arith, c .before .pre))) (λ c. simp length-set (omega (arith, c .before .pre))) (λ c. simp length-set (omega (arith, c .before .pre))) (λ c κs. search needs) (λ c. simp length-set) returns)
+reset-spec =
+    tie.close (tie.spec Inv-loop μ-loop loop-holds mul-words slice-write-words add-i loop-less loop-again answered-requires same-length returns)
