@@ -1,6 +1,7 @@
 /*
  * The S5933 model as a station's service and a driver call it. Link libs5933.a, an x86-64 archive with all of the calls, which
- * ./s5933-log --build makes; an installed copy has it by its former name, libstation.a, too.
+ * ./s5933-log --build makes; an installed copy has it by its former name, libstation.a, too. It is for user space: its code uses SSE
+ * registers and the red zone below the stack pointer, so it is not for a kernel as it is. Header and archive have to be of one version.
  */
 #ifndef S5933_H
 #define S5933_H
@@ -100,6 +101,60 @@ enum {
     S5933_MBEF = 0x34,
     S5933_INTCSR = 0x38, S5933_AINT = 0x38,
     S5933_MCSR = 0x3C, S5933_AGCSTS = 0x3C
+};
+
+/*
+ * The bits of INTCSR, MCSR and AINT, behind each its short name in docs/REGISTERS.md. Of INTCSR and AINT the flags, 16 to 21, are
+ * cleared by writing a one; the names that end in AT are the lowest bits of numbers of two: a mailbox, 0 for the first, and its byte.
+ * Outgoing and incoming are said from the host's side, in AINT too. AGCSTS has MCSR's bits of the FIFOs at other places.
+ */
+enum {
+    S5933_INTCSR_LINE = 1 << 23,                        /* LIN */
+    S5933_INTCSR_TARGET_ABORT = 1 << 21,                /* TAB */
+    S5933_INTCSR_MASTER_ABORT = 1 << 20,                /* MAB */
+    S5933_INTCSR_READ_COUNT_ZERO = 1 << 19,             /* RCF */
+    S5933_INTCSR_WRITE_COUNT_ZERO = 1 << 18,            /* WCF */
+    S5933_INTCSR_INCOMING_EVENT = 1 << 17,              /* INF */
+    S5933_INTCSR_OUTGOING_EVENT = 1 << 16,              /* OUF */
+    S5933_INTCSR_READ_COUNT_ENABLE = 1 << 15,           /* RCE */
+    S5933_INTCSR_WRITE_COUNT_ENABLE = 1 << 14,          /* WCE */
+    S5933_INTCSR_INCOMING_ENABLE = 1 << 12,             /* INE */
+    S5933_INTCSR_INCOMING_MAILBOX_AT = 10,              /* INBOX */
+    S5933_INTCSR_INCOMING_BYTE_AT = 8,                  /* INBYTE */
+    S5933_INTCSR_OUTGOING_ENABLE = 1 << 4,              /* OUE */
+    S5933_INTCSR_OUTGOING_MAILBOX_AT = 2,               /* OUTBOX */
+    S5933_INTCSR_OUTGOING_BYTE_AT = 0,                  /* OUTBYTE */
+
+    S5933_MCSR_CLEAR_MARKS = 1 << 27,                   /* CMB */
+    S5933_MCSR_CLEAR_ADDON_TO_PCI = 1 << 26,            /* CAP */
+    S5933_MCSR_CLEAR_PCI_TO_ADDON = 1 << 25,            /* CPA */
+    S5933_MCSR_READ_CYCLES = 1 << 14,                   /* REN */
+    S5933_MCSR_READ_AT_FOUR = 1 << 13,                  /* RF4 */
+    S5933_MCSR_WRITE_CYCLES = 1 << 10,                  /* WEN */
+    S5933_MCSR_WRITE_AT_FOUR = 1 << 9,                  /* WF4 */
+    S5933_MCSR_WRITE_COUNT_ZERO = 1 << 7,               /* WCZ */
+    S5933_MCSR_READ_COUNT_ZERO = 1 << 6,                /* RCZ */
+    S5933_MCSR_ADDON_TO_PCI_EMPTY = 1 << 5,             /* APE */
+    S5933_MCSR_ADDON_TO_PCI_FOUR_HELD = 1 << 4,         /* AP4 */
+    S5933_MCSR_ADDON_TO_PCI_FULL = 1 << 3,              /* APF */
+    S5933_MCSR_PCI_TO_ADDON_EMPTY = 1 << 2,             /* PAE */
+    S5933_MCSR_PCI_TO_ADDON_FOUR_FREE = 1 << 1,         /* PA4 */
+    S5933_MCSR_PCI_TO_ADDON_FULL = 1 << 0,              /* PAF */
+
+    S5933_AINT_LINE = 1 << 23,                          /* ALN */
+    S5933_AINT_ABORT = 1 << 21,                         /* ABT */
+    S5933_AINT_READ_COUNT_ZERO = 1 << 19,               /* ARF */
+    S5933_AINT_WRITE_COUNT_ZERO = 1 << 18,              /* AWF */
+    S5933_AINT_INCOMING_EVENT = 1 << 17,                /* AIF */
+    S5933_AINT_OUTGOING_EVENT = 1 << 16,                /* AOF */
+    S5933_AINT_READ_COUNT_ENABLE = 1 << 15,             /* ARE */
+    S5933_AINT_WRITE_COUNT_ENABLE = 1 << 14,            /* AWE */
+    S5933_AINT_INCOMING_ENABLE = 1 << 12,               /* AIE */
+    S5933_AINT_INCOMING_MAILBOX_AT = 10,                /* AIBOX */
+    S5933_AINT_INCOMING_BYTE_AT = 8,                    /* AIBYTE */
+    S5933_AINT_OUTGOING_ENABLE = 1 << 4,                /* AOE */
+    S5933_AINT_OUTGOING_MAILBOX_AT = 2,                 /* AOBOX */
+    S5933_AINT_OUTGOING_BYTE_AT = 0                     /* AOBYTE */
 };
 
 /*
@@ -268,12 +323,25 @@ enum { S5933_ANSWER_WORDS = 7 };
  *     above 1, or for one that is out of form; the other six words of the answer are 0;
  *   the code of the step, the answer's first word: S5933_DONE (0), or S5933_WINDOW_OUT_OF_FORM (2) to S5933_NO_MEMORY_THERE (13).
  *
- * A refusal, any code but S5933_DONE and S5933_NO_MEMORY_THERE, leaves every word of the controller and of the memory as it was. The
- * memory is changed by a done write cycle alone, in one word.
+ * A code comes WITHOUT a minus, unlike from the calls on windows: a test for less than 0 finds S5933_NO_ANSWER alone. Compare with
+ * S5933_DONE.
  *
- * Threads may call at the same time, each with a controller, a memory and an answer that no other call has meanwhile. A call uses at
- * most 1 KiB of stack, as measured. The caller owes what C cannot say, as above: no null pointer, not even for a length of 0, as many
- * words as each length says, aligned as uint32_t is, and no overlap of controller, memory and answer.
+ * What to do by code:
+ *   S5933_FIFO_FULL_OR_EMPTY (8), S5933_FIFO_NOT_READY (12): nothing was taken or stored; try again later;
+ *   S5933_TRANSFER_OFF (9), S5933_COUNT_IS_ZERO (10), S5933_ABORT_STANDS (11): no cycle before the driver has written a register;
+ *   S5933_NO_MEMORY_THERE (13): a write cycle's word is still in the FIFO, and both abort bits are set, S5933_INTCSR_MASTER_ABORT and
+ *     S5933_AINT_ABORT. Mend the address, clear INTCSR 20 by writing a one, and go on; the card's bit stops no cycle;
+ *   S5933_PART_FIFO_ACCESS (6): an access of the FIFO port of fewer than four bytes, which is never done; this one and the other codes
+ *     to 7 are mistakes of the caller.
+ *
+ * A refusal, any code but S5933_DONE and S5933_NO_MEMORY_THERE, leaves every word of the controller and of the memory as it was. The
+ * memory is changed by a done write cycle alone, in one word. A done read may store into the controller too (marks, AINT, a FIFO's
+ * fill), so its words cannot be const.
+ *
+ * Threads may call at the same time, each with a controller, a memory and an answer that no other call has meanwhile: two may not use
+ * one controller at the same time, not even to read. A call uses at most 1 KiB of stack, as measured. The caller owes what C cannot
+ * say, as above: no null pointer, not even for a length of 0, as many words as each length says, aligned as uint32_t is, no overlap of
+ * controller, memory and answer, and that nothing else touches them during the call, its own threads on a buffer there included.
  */
 int64_t s5933_step(uint32_t *controller, size_t controller_words, uint32_t *memory, size_t memory_words, uint32_t start, uint32_t kind,
                    uint32_t offset, uint32_t enables, uint32_t data, uint32_t *answer, size_t answer_words);
@@ -286,8 +354,9 @@ static inline void s5933_init(s5933_controller *controller)
 }
 
 /*
- * The step with the types above. Without a window (NULL) the memory has no word, and a cycle that comes to it is answered by code 13.
- * A window counts for every kind: one out of form is code 2. With no words its pointer may be null.
+ * The step with the types above. Without a window (NULL) the memory has no word, and a cycle that comes to its address is answered by
+ * code 13. That changes the controller: both abort bits are set, and both rights end. A window counts for every kind: one out of form
+ * is code 2. With no words its pointer may be null.
  */
 static inline s5933_answer s5933_do(s5933_controller *controller, const s5933_window *window, uint32_t kind, uint32_t offset,
                                     uint32_t enables, uint32_t data)
@@ -353,13 +422,19 @@ static inline s5933_answer s5933_chip_reset(s5933_controller *controller, const 
  * S5933_VERSION with zeros behind it, the controller's words, and the CRC-32 of all these bytes, as gzip has it. Each word is 4 bytes,
  * the lowest first.
  *
- * The host memory is the caller's to keep beside it, as it was between the same two calls.
+ * The host memory is the caller's to keep beside it, as it was between the same two calls; it has to be the same again, and so has its
+ * start address. A sum over both is to be of the last 4 of these bytes and the memory: a CRC-32 over all of them is the same for every
+ * controller, since they end in their own.
  *
  * Only the version that saved a controller restores it: another one may answer steps otherwise, and so may have left a state that
- * this one cannot reach.
+ * this one cannot reach. The words that are still in a FIFO then are lost: let the FIFOs run empty before an upgrade. The version that
+ * is saved is this header's; that the archive's is the same, the caller owes.
  */
 #define S5933_SAVED_MAGIC UINT32_C(0x33393553)
 enum { S5933_SAVED_VERSION_BYTES = 8, S5933_SAVED_BYTES = 4 + S5933_SAVED_VERSION_BYTES + 4 * S5933_CONTROLLER_WORDS + 4 };
+
+/* Does not compile if the version's text is longer than that. */
+typedef char s5933_version_is_saved_whole[sizeof S5933_VERSION - 1 <= S5933_SAVED_VERSION_BYTES ? 1 : -1];
 
 /* What s5933_restore returns where it refuses. */
 #define S5933_NOT_SAVED (-1)
@@ -410,7 +485,8 @@ static inline void s5933_save(const s5933_controller *controller, uint8_t bytes[
  *   S5933_NOT_SAVED (-1) if the bytes are too few, or have another magic number, or another sum at their end than theirs;
  *   S5933_OTHER_VERSION (-2) if another version saved them, be its controller longer or shorter;
  *   S5933_NOT_SAVED (-1) if they are not S5933_SAVED_BYTES;
- *   0 (S5933_DONE), and the controller is the one that was saved, word for word.
+ *   0 (S5933_DONE), and the controller is the one that was saved, word for word. If that was out of form, it is so again, and every step
+ *     on it is answered by code 1.
  *
  * No word is changed where it refuses.
  */

@@ -6,7 +6,9 @@
  * step the controller is saved, spoilt and restored. The answers are those
  * of LOG. Then: bytes that differ from saved ones in one bit or in length,
  * and those of other versions, are refused and leave the controller. What is
- * saved of a controller of the words 1 to 38 goes into FILE. */
+ * saved of a controller of the words 1 to 38 goes into FILE; it is out of
+ * form, and so once it is restored. Last, what the header says of steps that
+ * change the controller: code 13 without a window, and reads. */
 #include "guard.h"
 #include "steps.h"
 
@@ -17,6 +19,9 @@
 
 enum { MEMORY_WORDS = 4096, LINE_SIZE = 128, LONGER = 64,
        SUM_AT = S5933_SAVED_BYTES - 4 };
+
+/* The CRC-32 of any bytes with their own CRC-32 behind them. */
+#define ANY_SUM UINT32_C(0x2144DF1C)
 
 static struct pages page;
 static unsigned long steps, refused;
@@ -32,6 +37,8 @@ static void save_and_restore(s5933_controller *c)
     memset(c, 0xA5, sizeof *c);
     if (s5933_restore(c, bytes, sizeof bytes) != S5933_DONE)
         fail("what was saved is not restored");
+    if (s5933_crc(bytes, sizeof bytes) != ANY_SUM)
+        fail("a sum over all bytes knows the controller");
 }
 
 /* Reads a line without its LF; false behind the last. */
@@ -182,6 +189,89 @@ static void refusals(const char *name)
     refuse_with_sums(saved);
 }
 
+/* ---- what changes a controller ---- */
+
+/* Out of form when it was saved, and when it is restored: code 1 to every
+ * kind, with zeros behind it, and no word changes. */
+static void out_of_form(void)
+{
+    s5933_controller c, before;
+
+    snprintf(current, sizeof current, "a controller out of form");
+    for (uint32_t i = 0; i < S5933_CONTROLLER_WORDS; i++)
+        c.word[i] = i + 1;
+    before = c;
+    save_and_restore(&c);
+    for (uint32_t kind = S5933_PCI_READ; kind <= S5933_CHIP_RESET; kind++) {
+        s5933_answer a = s5933_do(&c, NULL, kind, S5933_MBEF, 0xF, 0);
+
+        if (a.code != S5933_STATE_OUT_OF_FORM || a.address != 0 || a.data != 0
+            || a.enables != 0 || a.line != 0 || a.addon_line != 0)
+            fail("another answer than code 1");
+    }
+    if (memcmp(&c, &before, sizeof c) != 0)
+        fail("not restored as it was, or changed by code 1");
+}
+
+/* Four bytes to move, with a word for them, both ways on, and both rights. */
+static s5933_controller in_bursts(void)
+{
+    s5933_controller c;
+    uint32_t on = S5933_MCSR_READ_CYCLES | S5933_MCSR_READ_AT_FOUR
+                | S5933_MCSR_WRITE_CYCLES | S5933_MCSR_WRITE_AT_FOUR;
+
+    s5933_init(&c);
+    if (s5933_pci_write(&c, NULL, S5933_MWTC, 0xF, 4).code != S5933_DONE
+        || s5933_pci_write(&c, NULL, S5933_MRTC, 0xF, 4).code != S5933_DONE
+        || s5933_pci_write(&c, NULL, S5933_MCSR, 0xF, on).code != S5933_DONE
+        || s5933_addon_write(&c, NULL, S5933_FIFO, 0xF, 7).code != S5933_DONE)
+        fail("a burst is not prepared");
+    c.word[W_READ_RIGHT] = c.word[W_WRITE_RIGHT] = 1;
+    return c;
+}
+
+/* A cycle of either kind without a window: code 13, both abort bits are set,
+ * both rights end, and no other word changes; cleared, it is 12 by WF4. */
+static void no_window(uint32_t kind)
+{
+    s5933_controller c = in_bursts(), wanted = c;
+
+    snprintf(current, sizeof current, "no window, kind %u", (unsigned)kind);
+    wanted.word[W_INTCSR] = S5933_INTCSR_MASTER_ABORT;
+    wanted.word[W_AINT] = S5933_AINT_ABORT;
+    wanted.word[W_READ_RIGHT] = wanted.word[W_WRITE_RIGHT] = 0;
+    if (s5933_do(&c, NULL, kind, 0, 0, 0).code != S5933_NO_MEMORY_THERE)
+        fail("not code 13");
+    if (memcmp(&c, &wanted, sizeof c) != 0)
+        fail("code 13 leaves other words");
+    if (s5933_do(&c, NULL, kind, 0, 0, 0).code != S5933_ABORT_STANDS)
+        fail("not code 11");
+    s5933_pci_write(&c, NULL, S5933_INTCSR, 4, S5933_INTCSR_MASTER_ABORT);
+    if (c.word[W_INTCSR] != 0 || c.word[W_AINT] != S5933_AINT_ABORT)
+        fail("INTCSR 20 is not cleared, or the card's bit is");
+    if (s5933_write_cycle(&c, NULL).code != S5933_FIFO_NOT_READY)
+        fail("not code 12");
+}
+
+/* A done read takes marks and sets the card's flag. */
+static void reads_store(void)
+{
+    s5933_controller c;
+
+    snprintf(current, sizeof current, "a read of IMB1");
+    s5933_init(&c);
+    s5933_addon_write(&c, NULL, S5933_AINT, 0xF, S5933_AINT_INCOMING_ENABLE);
+    s5933_addon_write(&c, NULL, S5933_IMB1, 0xF, 0x12345678);
+    if (c.word[W_MARKS] != 0x000F0000)
+        fail("no marks");
+    if (s5933_pci_read(&c, NULL, S5933_IMB1, 0xF).data != 0x12345678)
+        fail("another word");
+    if (c.word[W_MARKS] != 0
+        || c.word[W_AINT] != (S5933_AINT_INCOMING_ENABLE
+                               | S5933_AINT_INCOMING_EVENT))
+        fail("marks or AINT are not what the header says");
+}
+
 int main(int argc, char **argv)
 {
     if (argc < 4 || argc % 2 != 0) {
@@ -200,6 +290,10 @@ int main(int argc, char **argv)
         fclose(log);
     }
     refusals(argv[1]);
+    out_of_form();
+    no_window(S5933_WRITE_CYCLE);
+    no_window(S5933_READ_CYCLE);
+    reads_store();
     printf("saved: %lu steps, %lu refusals\n", steps, refused);
     return 0;
 }

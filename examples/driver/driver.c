@@ -7,9 +7,13 @@
  *                           afresh from there
  *   driver --resume FILE    goes on from a FILE that a run before has left
  *
+ * FILE is replaced as a whole, by way of FILE.new beside it.
+ *
  * Everything is decided by numbers. What stands on standard output is for
  * people.
  */
+#define _POSIX_C_SOURCE 200809L
+
 #include "s5933.h"
 
 #include <errno.h>
@@ -18,17 +22,20 @@
 #include <stdio.h>
 #include <stdlib.h>
 #include <string.h>
+#include <unistd.h>
 
 /* Where the registers are, and the memory that the card's cycles reach. */
 enum { IO_BASE = 0xE400, DMA_ADDRESS = 0x00100000, DMA_WORDS = 64 };
 
-/* The bits of docs/REGISTERS.md that the two sides use here. */
+/* What the driver looks for in INTCSR: a message, an abort, a report's end. */
 enum {
-    TAB = 1 << 21, MAB = 1 << 20, WCF = 1 << 18, INF = 1 << 17,  /* INTCSR */
-    WCE = 1 << 14, INE = 1 << 12, IMB1_BYTE_3 = 3 << 8,
-    WEN = 1 << 10, WF4 = 1 << 9,                                 /* MCSR */
-    ABT = 1 << 21, AOF = 1 << 16, AOE = 1 << 4, OMB1_BYTE_0 = 0  /* AINT */
+    MESSAGE = S5933_INTCSR_INCOMING_EVENT,
+    ABORTED = S5933_INTCSR_MASTER_ABORT | S5933_INTCSR_TARGET_ABORT,
+    COMPLETE = S5933_INTCSR_WRITE_COUNT_ZERO
 };
+
+/* The reports that are to come, all of them after the file was saved. */
+enum { REPORTS = 2 };
 
 /* All of the machine: a restart needs these and nothing else. */
 static s5933_controller chip;
@@ -37,6 +44,9 @@ static const s5933_window memory = { dma, DMA_WORDS, DMA_ADDRESS };
 
 /* The interrupt lines, as the latest step left them. */
 static uint32_t host_line, card_line;
+
+/* The reports that came. */
+static unsigned reports;
 
 static void complain(const char *what, const char *why)
 {
@@ -147,17 +157,17 @@ static void card_interrupt(void)
 {
     uint32_t why = card_read(S5933_AINT);
 
-    must_have(why, AOF | ABT);
-    if (why & AOF) {
+    must_have(why, S5933_AINT_OUTGOING_EVENT | S5933_AINT_ABORT);
+    if (why & S5933_AINT_OUTGOING_EVENT) {
         uint32_t lift = card_read(S5933_OMB1);
 
-        card_write(S5933_AINT, 4, AOF);
+        card_write(S5933_AINT, 4, S5933_AINT_OUTGOING_EVENT);
         printf("card: interrupt %08" PRIX32 ", order %" PRIu32 "\n", why,
                lift);
         card_report(lift);
     }
-    if (why & ABT) {
-        card_write(S5933_AINT, 4, ABT);
+    if (why & S5933_AINT_ABORT) {
+        card_write(S5933_AINT, 4, S5933_AINT_ABORT);
         printf("card: interrupt %08" PRIX32 ", the transfer was aborted\n",
                why);
     }
@@ -171,10 +181,12 @@ static void acknowledge(uint32_t flags)
     outb((uint8_t)(flags >> 16), IO_BASE + S5933_INTCSR + 2);
 }
 
+/* The card hears of byte 0 of OMB1, the driver of byte 3 of IMB1. */
 static void set_up(void)
 {
-    card_write(S5933_AINT, 3, AOE | OMB1_BYTE_0);
-    outw(WCE | INE | IMB1_BYTE_3, IO_BASE + S5933_INTCSR);
+    card_write(S5933_AINT, 3, S5933_AINT_OUTGOING_ENABLE);
+    outw(S5933_INTCSR_WRITE_COUNT_ENABLE | S5933_INTCSR_INCOMING_ENABLE
+         | 3 << S5933_INTCSR_INCOMING_BYTE_AT, IO_BASE + S5933_INTCSR);
 }
 
 /* Asks for a report, to be stored at an address. */
@@ -193,7 +205,8 @@ static void start_transfer(void)
 
     printf("driver: message %08" PRIX32 "\n", message);
     outl(message & 0xFF, IO_BASE + S5933_MWTC);
-    outb((WEN | WF4) >> 8, IO_BASE + S5933_MCSR + 1);
+    outb((S5933_MCSR_WRITE_CYCLES | S5933_MCSR_WRITE_AT_FOUR) >> 8,
+         IO_BASE + S5933_MCSR + 1);
 }
 
 /* It has come. Its length stands in the mailbox still. */
@@ -205,6 +218,7 @@ static void show_report(void)
     for (unsigned at = 0; at < length; at++)
         putchar((int)(dma[at / 4] >> 8 * (at % 4) & 0xFF));
     printf("\"\n");
+    reports++;
 }
 
 /* There was no memory: a right address first, then the cycles may go on. */
@@ -216,7 +230,7 @@ static void recover(void)
     printf("driver: no memory at %08" PRIX32 ", %" PRIu32 " bytes to go\n",
            address, left);
     outl(DMA_ADDRESS, IO_BASE + S5933_MWAR);
-    acknowledge(MAB | TAB);
+    acknowledge(ABORTED);
 }
 
 static void host_interrupt(void)
@@ -224,15 +238,15 @@ static void host_interrupt(void)
     uint32_t why = inl(IO_BASE + S5933_INTCSR);
 
     printf("driver: interrupt %08" PRIX32 "\n", why);
-    must_have(why, INF | MAB | TAB | WCF);
-    if (why & INF) {
-        acknowledge(INF);
+    must_have(why, MESSAGE | ABORTED | COMPLETE);
+    if (why & MESSAGE) {
+        acknowledge(MESSAGE);
         start_transfer();
     }
-    if (why & (MAB | TAB))
+    if (why & ABORTED)
         recover();
-    if (why & WCF) {
-        acknowledge(WCF);
+    if (why & COMPLETE) {
+        acknowledge(COMPLETE);
         show_report();
     }
 }
@@ -285,25 +299,55 @@ static void work(unsigned cycles)
 
 /* ---- keeping it over a restart ---- */
 
-/* The controller, then the memory, both as they are now. */
-enum { FILE_BYTES = S5933_SAVED_BYTES + 4 * DMA_WORDS };
+/*
+ * The controller, which ends in a sum of its own, the memory, both as they
+ * are now, and a sum of that sum and the memory, so that both stay together.
+ * (A CRC over bytes and their own CRC is the same whatever they are: over all
+ * of the file it would not know the controller.)
+ */
+enum {
+    MEMORY_AT = S5933_SAVED_BYTES,
+    SUM_AT = MEMORY_AT + 4 * DMA_WORDS,
+    FILE_BYTES = SUM_AT + 4
+};
 
+static uint32_t sum_of(const uint8_t bytes[FILE_BYTES])
+{
+    return s5933_crc(bytes + MEMORY_AT - 4, SUM_AT - (MEMORY_AT - 4));
+}
+
+/* All of the bytes, as far as the disk; errno says why not. */
+static int write_file(const char *name, const uint8_t bytes[FILE_BYTES])
+{
+    FILE *file = fopen(name, "wb");
+    int written;
+
+    if (file == NULL)
+        return 0;
+    written = fwrite(bytes, 1, FILE_BYTES, file) == FILE_BYTES
+           && fflush(file) == 0 && fsync(fileno(file)) == 0;
+    return fclose(file) == 0 && written;
+}
+
+/* The file gets its name once it is whole: a crash leaves the old or it. */
 static int save(const char *name)
 {
     uint8_t bytes[FILE_BYTES];
-    FILE *file = fopen(name, "wb");
-    size_t written = 0;
+    char other[FILENAME_MAX];
 
     s5933_save(&chip, bytes);
     for (size_t at = 0; at < DMA_WORDS; at++)
-        s5933_put_word(bytes + S5933_SAVED_BYTES + 4 * at, dma[at]);
-    if (file != NULL)
-        written = fwrite(bytes, 1, sizeof bytes, file);
-    if (file == NULL || fclose(file) != 0 || written != sizeof bytes) {
-        complain(name, strerror(errno));
+        s5933_put_word(bytes + MEMORY_AT + 4 * at, dma[at]);
+    s5933_put_word(bytes + SUM_AT, sum_of(bytes));
+    if (snprintf(other, sizeof other, "%s.new", name) >= (int)sizeof other) {
+        complain(name, strerror(ENAMETOOLONG));
         return 0;
     }
-    return 1;
+    if (write_file(other, bytes) && rename(other, name) == 0)
+        return 1;
+    complain(name, strerror(errno));
+    unlink(other);
+    return 0;
 }
 
 /* Reads the file, and a byte more if it is too long; -1 if it can't. */
@@ -332,14 +376,15 @@ static int restore(const char *name)
 
     if (length < 0)
         return 0;
-    if (length == FILE_BYTES)
+    if (length == FILE_BYTES
+        && s5933_get_word(bytes + SUM_AT) == sum_of(bytes))
         answer = s5933_restore(&chip, bytes, S5933_SAVED_BYTES);
     if (answer == S5933_OTHER_VERSION)
         complain(name, "saved by another version of the model");
     else if (answer != S5933_DONE)
         complain(name, "not what this program saves");
     for (size_t at = 0; at < DMA_WORDS && answer == S5933_DONE; at++)
-        dma[at] = s5933_get_word(bytes + S5933_SAVED_BYTES + 4 * at);
+        dma[at] = s5933_get_word(bytes + MEMORY_AT + 4 * at);
     return answer == S5933_DONE;
 }
 
@@ -386,6 +431,10 @@ int main(int argc, char **argv)
     second_half();
     if (fflush(stdout) != 0 || ferror(stdout)) {
         complain("standard output", strerror(errno));
+        return 1;
+    }
+    if (reports != REPORTS) {
+        fprintf(stderr, "driver: %u of %d reports came\n", reports, REPORTS);
         return 1;
     }
     return 0;

@@ -11,7 +11,6 @@ use lib.Seq.{getD-set-same, getD-set-other, take-set-le, take-set-lt, drop-set-l
 use borrow.Author.Tests.{eq-eqb, ne-eqb, leb-true, ltb-true}
 use Rattle.laws.proofs.Tests.{and-left, and-right}
 use Rattle.fifo.specs.Ring.{from}
-use Rattle.machine.specs.State.{State}
 use Rattle.bank.specs.Bank.{stateIn}
 use Rattle.bank.specs.Words.{part, mailIn, pciIn, addonIn, numberIn, oneIf, isRight, bankBy, stateOfWords, rightsBy, hasRights, isController, ZerosAreReset}
 

@@ -5,21 +5,26 @@ use mathlib.Core.Bool.{Bool, true, false, cond}
 use mathlib.Core.List.{List, [], _∷_, map}
 use native.Mathlib.Omega.{arith}
 use lib.Dec.{eqb}
-use lib.IntN.{ℤ, pos}
+use lib.IntN.{ℤ, pos, negsuc, pos-ne-negsuc}
 use lib.ListN.{length, replicate}
 use borrow.Author.Tests.{eqb-true, eqb-false, ne-eqb}
-use Rattle.machine.specs.State.{State}
-use Rattle.machine.specs.Step.{Outcome, answered, stepOf}
+use Rattle.machine.specs.Step.{answered, stepOf}
 use Rattle.machine.specs.Event.{Event}
 use Rattle.machine.specs.Run.{run}
 use Rattle.machine.specs.declared.Step.{Step}
 use Rattle.machine.specs.declared.Answer.{Answer}
 use Rattle.laws.proofs.Refused.{refused}
-use Rattle.promises.proofs.Refused.{numbered}
+use Rattle.promises.specs.Theorems.{AbortOnly}
+use Rattle.promises.proofs.Refused.{numbered, aborted}
 use Rattle.bank.specs.Words.{oneIf, stateOfWords, isController}
 use Rattle.bank.proofs.Words.{zeros-are-reset}
 use Rattle.driver.proofs.Words.{of-none, of-one}
-use Rattle.driver.specs.Call.{noController, stepOfWords, wordsOfAnswer, Told, StepPromised, SameCall, StepCallUnique, StepByNumbers, StepCallRule, Calls, none, call, Ran, CallsRun, CallsFromZeros, CallsJoined}
+use Rattle.driver.specs.Call.{noController, stepOfWords, wordsOfAnswer, StepPromised, SameCall, StepCallUnique, StepCallRule, none, call, CallsRun, CallsFromZeros, leftOver, stateOver, CallsGiven, CallsAlike}
+
+-- the number that is returned
+abbrev number : ℤ → ℕ
+number (pos n) = n
+number (negsuc n) = 0
 
 -- a number that is not returned is not the code
 other-code : (r : ℤ) (code n : ℕ) → r ≡ pos code → (r ≡ pos n → ⊥) → eqb code n ≡ false
@@ -95,6 +100,30 @@ module _ (words : List ℕ) (start : ℕ) (memory : List ℕ) (s : Step) where
       let t = p .unasked (eqb-false (length answer) 7 h) in
       (t .1 .0, t .1 .1 .0)
 
+  -- code 13 is a controller's
+  abort-by : (one : Bool) → isController words ≡ one → stepOfWords words start memory s .answer .code ≡ 13 → AbortOnly (stateOfWords words) (stepOfWords words start memory s .state) × (stepOfWords words start memory s .memory ≡ memory)
+  unfolding answered
+  abort-by true h e =
+      let o = of-one words start memory s h in
+      let a = aborted (stateOfWords words) start memory s (sym (λ i. o i .answer .code) ∙ e) in
+      rw o (a .0, a .1 .0)
+  abort-by false h e =
+      let one : stepOfWords words start memory s .answer .code ≡ 1 = λ i. of-none words start memory s h i .answer .code in
+      absurd (omega (arith, e, one))
+
+  aborts-by : (answer : List ℕ) (asked : Bool) → eqb (length answer) 7 ≡ asked → (r : ℤ) (words′ memory′ answer′ : List ℕ)
+      → StepPromised words start memory s answer r words′ memory′ answer′ → r ≡ pos 13 → AbortOnly (stateOfWords words) (stateOfWords words′) × (memory′ ≡ memory)
+  aborts-by answer true h r words′ memory′ answer′ p e =
+      let t = p .told (eqb-true (length answer) 7 h) in
+      let a = abort-by (isController words) refl (ap number (sym (t .result) ∙ e)) in
+      (rw (t .state) (a .0), t .memory ∙ a .1)
+  aborts-by answer false h r words′ memory′ answer′ p e = absurd (pos-ne-negsuc 13 0 (sym e ∙ p .unasked (eqb-false (length answer) 7 h) .0))
+
+  still-by : (answer : List ℕ) (asked : Bool) → eqb (length answer) 7 ≡ asked → (r : ℤ) (words′ memory′ answer′ : List ℕ)
+      → StepPromised words start memory s answer r words′ memory′ answer′ → isController words′ ≡ isController words
+  still-by answer true h r words′ memory′ answer′ p = p .told (eqb-true (length answer) 7 h) .still
+  still-by answer false h r words′ memory′ answer′ p = ap isController (p .unasked (eqb-false (length answer) 7 h) .1 .0)
+
   none-told : isController words ≡ false → (stepOfWords words start memory s .answer .code ≡ 1) × (wordsOfAnswer (stepOfWords words start memory s .answer) ≡ 1 ∷ 0 ∷ 0 ∷ 0 ∷ 0 ∷ 0 ∷ 0 ∷ [])
   unfolding answered wordsOfAnswer
   none-told h =
@@ -110,9 +139,11 @@ step-call-rule words start memory s answer r words′ memory′ answer′ p =
     let o = stepOfWords words start memory s in
     record {
       unasked = p .unasked;
-      coded = λ asked. (o .answer .code, (p .told asked .result, (code-most words start memory s, (rest-of (o .answer), p .told asked .answer))));
+      coded = λ asked. (o .answer .code, (p .told asked .result, (code-most words start memory s, (rest-of (o .answer), (p .told asked .answer, refl)))));
       none = λ asked h. (p .told asked .result ∙ ap pos (none-told words start memory s h .0), p .told asked .answer ∙ none-told words start memory s h .1);
       refused = stays-by words start memory s answer (eqb (length answer) 7) refl r words′ memory′ answer′ p;
+      aborted = aborts-by words start memory s answer (eqb (length answer) 7) refl r words′ memory′ answer′ p;
+      still = still-by words start memory s answer (eqb (length answer) 7) refl r words′ memory′ answer′ p;
     }
 
 -- ---- calls one after the other
@@ -146,6 +177,27 @@ calls-from-zeros start memory steps answers words′ memory′ c =
       memory = q .memory ∙ (λ i. run (z i) start memory steps .memory);
     }
 
-pub calls-joined : CallsJoined
-calls-joined start words memory steps answers words′ memory′ more others words″ memory″ none d = d
-calls-joined start words memory steps answers words′ memory′ more others words″ memory″ (call s answer r asked p rest) d = call s answer r asked p (calls-joined start _ _ _ _ words′ memory′ more others words″ memory″ rest d)
+-- ---- calls with whatever window each is given
+
+pub calls-given : CallsGiven
+calls-given words asked left words′ h none = record { left = refl; controller = h; state = refl }
+calls-given words asked left words″ h (call {words′ = words′} {asked = more} {left = later} {memory′ = memory′} {answer′ = answer′} a answer r seven p rest) =
+    let t = p .told seven in
+    let o = stepOf (stateOfWords words) (a .start) (a .memory) (a .step) in
+    let e = of-one words (a .start) (a .memory) (a .step) h in
+    let state : stateOfWords words′ ≡ o .state = t .state ∙ (λ i. e i .state) in
+    let memory : memory′ ≡ o .memory = t .memory ∙ (λ i. e i .memory) in
+    let first : answer′ ≡ wordsOfAnswer (o .answer) = t .answer ∙ (λ i. wordsOfAnswer (e i .answer)) in
+    let q = calls-given words′ more later words″ (t .still ∙ h) rest in
+    let others : later ≡ leftOver (o .state) more = q .left ∙ (λ i. leftOver (state i) more) in
+    record {
+      left = λ i. record { answer = first i; memory = memory i } ∷ others i;
+      controller = q .controller;
+      state = q .state ∙ (λ i. stateOver (state i) more);
+    }
+
+pub calls-alike : CallsAlike
+calls-alike asked words₁ words₂ left₁ left₂ words₃ words₄ one two same c d =
+    let p = calls-given words₁ asked left₁ words₃ one c in
+    let q = calls-given words₂ asked left₂ words₄ two d in
+    (p .left ∙ (λ i. leftOver (same i) asked) ∙ sym (q .left), p .state ∙ (λ i. stateOver (same i) asked) ∙ sym (q .state))

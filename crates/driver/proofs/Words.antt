@@ -1,7 +1,7 @@
 -- Words that stand for a controller, and words that stand for none, in a step.
 use Prim.Native.Nat.{ℕ, _+_}
 use mathlib.Core.Path.{_≡_, refl, sym, ap, _∙_}
-use mathlib.Core.Bool.{Bool, true, false, cond, _&&_, true≢false}
+use mathlib.Core.Bool.{Bool, true, false, cond}
 use mathlib.Core.List.{List, _++_, append-nil}
 use native.Mathlib.Omega.{arith}
 use native.Mathlib.Decide.{ℕ-discrete}
@@ -10,7 +10,7 @@ use lib.ListN.{length, drop-of-length-le}
 use lib.Seq.{sets, sets-eq}
 use borrow.Author.Tests.{eqb-true}
 use Rattle.laws.proofs.Tests.{and-left, and-right}
-use Rattle.machine.specs.Step.{Outcome, nothing, answered, stepOf}
+use Rattle.machine.specs.Step.{nothing, answered, stepOf}
 use Rattle.machine.specs.declared.Step.{Step}
 use Rattle.machine.specs.declared.Answer.{Answer}
 use Rattle.bank.specs.Words.{stateOfWords, hasRights, isController}

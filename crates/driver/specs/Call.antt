@@ -2,17 +2,18 @@
 use Prim.Native.Nat.{ℕ, _≤_}
 use mathlib.Core.Path.{_≡_}
 use mathlib.Core.Bool.{true, false, cond}
-use mathlib.Core.List.{List, [], _∷_, _++_, map}
+use mathlib.Core.List.{List, [], _∷_, map}
 use lib.Dec.{eqb}
 use lib.IntN.{ℤ, pos, negsuc}
 use lib.ListN.{length, replicate}
-use Rattle.machine.specs.State.{resetState}
+use Rattle.machine.specs.State.{State, resetState}
 use Rattle.machine.specs.Codes.{stateOutOfForm}
 use Rattle.machine.specs.Step.{Outcome, nothing, answered, stepOf}
 use Rattle.machine.specs.Event.{Event}
 use Rattle.machine.specs.Run.{RunOutcome, run}
 use Rattle.machine.specs.declared.Step.{Step}
 use Rattle.machine.specs.declared.Answer.{Answer}
+use Rattle.promises.specs.Theorems.{AbortOnly}
 use Rattle.bank.specs.Words.{oneIf, controllerWords, stateOfWords, isController}
 use Rattle.refusal.specs.Codes.{formCode}
 use Rattle.step.specs.Parts.{outcomeIn}
@@ -77,11 +78,15 @@ pub record StepByNumbers (words : List ℕ) (start : ℕ) (memory : List ℕ) (a
   -- an answer of other than 7 words: -1, and not a word is touched
   pub unasked : (length answer ≡ 7 → ⊥) → (r ≡ negsuc 0) × ((words′ ≡ words) × ((memory′ ≡ memory) × (answer′ ≡ answer)))
   -- else a code from 0 to 13, which is the answer's first word too
-  pub coded : length answer ≡ 7 → (code : ℕ) × ((r ≡ pos code) × ((code ≤ 13) × ((rest : List ℕ) × (answer′ ≡ code ∷ rest))))
+  pub coded : length answer ≡ 7 → (code : ℕ) × ((r ≡ pos code) × ((code ≤ 13) × ((rest : List ℕ) × ((answer′ ≡ code ∷ rest) × (length rest ≡ 6)))))
   -- words that stand for no controller: 1, and nothing else is answered
   pub none : length answer ≡ 7 → isController words ≡ false → (r ≡ pos 1) × (answer′ ≡ 1 ∷ 0 ∷ 0 ∷ 0 ∷ 0 ∷ 0 ∷ 0 ∷ [])
   -- any number but 0 and 13: every word of the controller and of the memory is as it was
   pub refused : (r ≡ pos 0 → ⊥) → (r ≡ pos 13 → ⊥) → (words′ ≡ words) × (memory′ ≡ memory)
+  -- 13: the abort flags go up, both rights end, and nothing else of the state changes, and no word of the memory
+  pub aborted : r ≡ pos 13 → AbortOnly (stateOfWords words) (stateOfWords words′) × (memory′ ≡ memory)
+  -- words that stood for a controller stand for one, and no others do
+  pub still : isController words′ ≡ isController words
 
 -- `step-call-rule`: whatever words, memory, start, numbers and answer are, that is what `s5933_step` promises
 abbrev pub StepCallRule : Type 0
@@ -117,8 +122,50 @@ CallsFromZeros =
     (start : ℕ) (memory : List ℕ) (steps : List Step) (answers : List (List ℕ)) (words′ memory′ : List ℕ)
     → Calls start (replicate controllerWords 0) memory steps answers words′ memory′ → Ran (run resetState start memory steps) answers words′ memory′
 
--- `calls-joined`: calls on the words and the memory that earlier calls left, wherever they were kept meanwhile, are one row of calls with them
-abbrev pub CallsJoined : Type 0
-CallsJoined =
-    (start : ℕ) (words memory : List ℕ) (steps : List Step) (answers : List (List ℕ)) (words′ memory′ : List ℕ) (more : List Step) (others : List (List ℕ)) (words″ memory″ : List ℕ)
-    → Calls start words memory steps answers words′ memory′ → Calls start words′ memory′ more others words″ memory″ → Calls start words memory (steps ++ more) (answers ++ others) words″ memory″
+-- ---- calls with whatever window each is given
+
+-- a call as it is asked: its window, by start and memory, and the step; and what it leaves besides the controller
+pub record Asked : Type 0 where
+  pub start : ℕ
+  pub memory : List ℕ
+  pub step : Step
+
+pub record Left : Type 0 where
+  pub answer : List ℕ
+  pub memory : List ℕ
+
+-- each is given the words that the one before left, wherever they were kept meanwhile
+pub data GivenCalls : List ℕ → List Asked → List Left → List ℕ → Type 0 where
+  none : {words : List ℕ} → GivenCalls words [] [] words
+  call : {words words′ words″ : List ℕ} {asked : List Asked} {left : List Left} {memory′ answer′ : List ℕ} (a : Asked) (answer : List ℕ) (r : ℤ)
+      → length answer ≡ answerWords → StepPromised words (a .start) (a .memory) (a .step) answer r words′ memory′ answer′
+      → GivenCalls words′ asked left words″ → GivenCalls words (a ∷ asked) (record { answer = answer′; memory = memory′ } ∷ left) words″
+
+-- the machine's steps with these windows, one after the other: the state that they leave, and what each leaves besides
+abbrev pub stateOver : State → List Asked → State
+stateOver st [] = st
+stateOver st (a ∷ more) = stateOver (stepOf st (a .start) (a .memory) (a .step) .state) more
+
+abbrev pub leftOver : State → List Asked → List Left
+leftOver st [] = []
+leftOver st (a ∷ more) =
+    let o = stepOf st (a .start) (a .memory) (a .step) in
+    record { answer = wordsOfAnswer (o .answer); memory = o .memory } ∷ leftOver (o .state) more
+
+pub record WentOver (st : State) (asked : List Asked) (told : List Left) (words′ : List ℕ) : Type 0 where
+  pub left : told ≡ leftOver st asked
+  pub controller : isController words′ ≡ true
+  pub state : stateOfWords words′ ≡ stateOver st asked
+
+-- `calls-given`: calls on a controller, whatever windows they are given, are the machine's steps from its state
+abbrev pub CallsGiven : Type 0
+CallsGiven =
+    (words : List ℕ) (asked : List Asked) (left : List Left) (words′ : List ℕ) → isController words ≡ true → GivenCalls words asked left words′ → WentOver (stateOfWords words) asked left words′
+
+-- `calls-alike`: so two rows of the same calls, on controllers of the same state, leave the same answers, memories and state: nothing but the state counts, whichever
+-- words stand for it and whatever happened between calls
+abbrev pub CallsAlike : Type 0
+CallsAlike =
+    (asked : List Asked) (words₁ words₂ : List ℕ) (left₁ left₂ : List Left) (words₃ words₄ : List ℕ)
+    → isController words₁ ≡ true → isController words₂ ≡ true → stateOfWords words₁ ≡ stateOfWords words₂
+    → GivenCalls words₁ asked left₁ words₃ → GivenCalls words₂ asked left₂ words₄ → (left₁ ≡ left₂) × (stateOfWords words₃ ≡ stateOfWords words₄)

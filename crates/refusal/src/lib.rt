@@ -4,7 +4,6 @@ ghost use mathlib.Core.Bool.{not, _&&_, _||_};
 ghost use mathlib.Core.List.{List};
 ghost use Prim.Native.Nat.{ℕ, _%_, _<_};
 ghost use lib.Dec.{eqb, ltb};
-ghost use lib.ListN.{length};
 ghost use Rattle.machine.specs.Sides as sides;
 ghost use Rattle.machine.specs.State.{lane};
 ghost use Rattle.machine.specs.Access.{accessOf};

@@ -12,9 +12,7 @@ use Rattle.laws.proofs.Bits.{bit-zero}
 use Rattle.laws.proofs.Done.{room-to-write}
 use borrow.Author.Tests.{eqb-true, eqb-false, lt-ltb, ltb-true, leb-true, ne-eqb, not-false}
 use Rattle.machine.specs.Words.{raised, written}
-use Rattle.machine.specs.Commands.{clearsFifo}
-use Rattle.fifo.specs.Ring.{from}
-use Rattle.machine.specs.Sides.{Side, pci, addon, other, Party, host, card}
+use Rattle.machine.specs.Sides.{Side, pci, addon, other, Party}
 use Rattle.machine.specs.State.{State, held, resetState}
 use Rattle.machine.specs.Offsets.{isMailbox, fifoPort, inTable}
 use Rattle.machine.specs.Access.{Access, writing, isReset, cycles, accessOf, reads, writes}

@@ -1,5 +1,5 @@
 use denote.Ref.{now}
-use mathlib.Core.Path.{_≡_, refl, sym, ap, _∙_}
+use mathlib.Core.Path.{_≡_, refl, _∙_}
 use native.Mathlib.Omega.{arith}
 use lib.Dec.{eqb}
 use lib.IntN.{pos}
@@ -9,7 +9,7 @@ use mir.ValLaws.{toZ-pos}
 use Rattle.machine.specs.declared.Step.{Step}
 use Rattle.step.specs.Parts.{InWords}
 use Rattle.driver.specs.Call.{wordsOfAnswer, stepOfWords, formOfWords}
-use Rattle.driver.proofs.Words.{Left, left-by}
+use Rattle.driver.proofs.Words.{left-by}
 use Rattle.driver.proofs.Call.{code-most}
 use borrow.Author.Needs.{needs}
 use Rattle.driver.proofs.s5933_step.Statement.{statement}

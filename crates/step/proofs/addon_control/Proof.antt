@@ -5,7 +5,7 @@ use Rattle.machine.specs.Access.{accessOf}
 use Rattle.machine.specs.Step.{nothing}
 use Rattle.bank.specs.Bank.{stateIn}
 use Rattle.bank.specs.Words.{stateOfWords}
-use Rattle.step.specs.Parts.{marksCleared, pciCleared, addonCleared}
+use Rattle.step.specs.Parts.{pciCleared, addonCleared}
 use Rattle.step.proofs.Laws.{addon-control-state, plain-write-reply}
 use Rattle.step.proofs.Answers.{done-as}
 use borrow.Author.Needs.{needs}

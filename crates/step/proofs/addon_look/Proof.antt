@@ -6,7 +6,7 @@ use lib.ListN.{getD}
 use Rattle.machine.specs.Sides.{addon}
 use Rattle.machine.specs.Step.{showing, register}
 use Rattle.bank.specs.Bank.{stateIn}
-use Rattle.bank.specs.Words.{mailIn, pciIn, addonIn, bankBy, stateOfWords}
+use Rattle.bank.specs.Words.{pciIn, addonIn, stateOfWords}
 use Rattle.bank.proofs.Words.{stand, stand-numbers}
 use Rattle.step.proofs.Laws.{read-in-table, addon-read-state, addon-read-reply}
 use Rattle.step.proofs.Answers.{at-words, coded, access-refused, access-done, done-by}

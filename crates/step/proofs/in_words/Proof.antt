@@ -1,9 +1,7 @@
 use denote.Ref.{now}
-use mathlib.Core.Path.{_≡_, refl, sym, ap, _∙_}
-use mathlib.Core.Bool.{true≢false}
-use lib.Dec.{eqb}
+use mathlib.Core.Path.{_≡_, refl, sym, _∙_}
 use borrow.Author.Tests.{ne-eqb}
-use Rattle.machine.specs.Step.{Outcome, nothing, answered}
+use Rattle.machine.specs.Step.{nothing, answered}
 use Rattle.bank.specs.Words.{mailIn, pciIn, addonIn, stateOfWords}
 use Rattle.step.specs.Parts.{outcomeIn, settledOutcome, toldStep}
 use Rattle.step.proofs.Answers.{kept-same, at-words}

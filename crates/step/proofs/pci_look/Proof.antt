@@ -1,12 +1,12 @@
 use denote.Ref.{now}
-use mathlib.Core.Path.{refl, sym, _∙_}
+use mathlib.Core.Path.{refl, _∙_}
 use mathlib.Core.List.{[], _∷_}
 use lib.Bits.{bitXor}
 use lib.ListN.{getD}
 use Rattle.machine.specs.Sides.{pci}
 use Rattle.machine.specs.Step.{showing, register}
 use Rattle.bank.specs.Bank.{stateIn}
-use Rattle.bank.specs.Words.{mailIn, pciIn, addonIn, bankBy, stateOfWords}
+use Rattle.bank.specs.Words.{pciIn, addonIn, stateOfWords}
 use Rattle.bank.proofs.Words.{stand, stand-numbers}
 use Rattle.step.proofs.Laws.{pci-read-state, pci-read-reply}
 use Rattle.step.proofs.Answers.{at-words, access-refused, access-done, done-by}
