@@ -27,12 +27,24 @@ const INCOMING_CHOICE: u32 = 8;
 
 const HALF: u32 = 16;
 
-const WRITE_COUNT_ENABLE: u32 = 14;
+// How far a flag stands above its enable, and the enables as words.
+const OUTGOING_DOWN: u32 = 12;
 
-const READ_COUNT_ENABLE: u32 = 15;
+const OUTGOING_ENABLED: u32 = 0x0000_0010;
+
+const INCOMING_DOWN: u32 = 5;
+
+const INCOMING_ENABLED: u32 = 0x0000_1000;
+
+const COUNTS_DOWN: u32 = 4;
+
+const COUNTS_ENABLED: u32 = 0x0000_C000;
+
+// The flags 20 and 21.
+const ABORTS: u32 = 0x0030_0000;
 
 // The flags, and the word with the lowest one: every word below it has none.
-const LOWEST_FLAG: u32 = 0x0001_0000;
+pub const LOWEST_FLAG: u32 = 0x0001_0000;
 
 const OUTGOING_FLAG: u32 = 16;
 
@@ -131,23 +143,22 @@ pub fn aint_aborted(i: u32) -> u32
     word::raised(i, true, ADDON_ABORT)
 }
 
-// The interrupt line of a side, by its register.
+// The interrupt line of a side, by its register: each flag from 16 to 19 is brought to the place of its enable, 4, 12, 14 and 15, and both stand there; or an abort.
 pub fn line(i: u32) -> bool
     ensures { λ r. ⌜ r ≡ lineOf i ⌝ }
 {
-    if i < LOWEST_FLAG {
-        return false;
-    }
-    word::bit(i, OUTGOING_FLAG) & word::bit(i, OUTGOING_ENABLE)
-        | word::bit(i, INCOMING_FLAG) & word::bit(i, INCOMING_ENABLE)
-        | word::bit(i, WRITE_COUNT_FLAG) & word::bit(i, WRITE_COUNT_ENABLE)
-        | word::bit(i, READ_COUNT_FLAG) & word::bit(i, READ_COUNT_ENABLE)
-        | is_abort_in(i)
+    let raised = (i >> OUTGOING_DOWN) & OUTGOING_ENABLED
+        | (i >> INCOMING_DOWN) & INCOMING_ENABLED
+        | (i >> COUNTS_DOWN) & COUNTS_ENABLED;
+    (raised & i | i & ABORTS) != 0
 }
 
 // Either as it is read: the line at bit 23.
 pub fn read(i: u32) -> u32
     ensures { λ r. ⌜ r ≡ interruptsRead i ⌝ }
 {
+    if i < LOWEST_FLAG {
+        return i;
+    }
     word::raised(i, line(i), LINE)
 }

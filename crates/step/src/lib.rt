@@ -31,7 +31,7 @@ pub struct Stepped {
 
 // ---- answers
 
-// What is answered, with the lines that INTCSR and AINT have then, but for code 1.
+// What is answered, with the lines that INTCSR and AINT have then, but for code 1. Mostly no flag stands, and so no line.
 fn answered(
     intcsr: u32,
     aint: u32,
@@ -43,6 +43,17 @@ fn answered(
 ) -> Answer
     ensures { λ r. ⌜ ((st : State) → st .intcsr ≡ intcsr → st .aint ≡ aint → r ≡ answered st code (record { address = address; value = value; enables = enables; changed = changed })) ⌝ }
 {
+    if (intcsr | aint) < interrupts::LOWEST_FLAG {
+        return Answer {
+            code,
+            address,
+            value,
+            enables,
+            line: false,
+            addon_line: false,
+            changed,
+        };
+    }
     let i = interrupts::line(intcsr);
     let a = interrupts::line(aint);
     let line = (code != codes::STATE_OUT_OF_FORM) & i;
