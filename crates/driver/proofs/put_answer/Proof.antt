@@ -11,15 +11,6 @@ use borrow.Author.Needs.{needs}
 use Rattle.driver.proofs.put_answer.Statement.{statement}
 use Rattle.driver.proofs.put_answer.Tie as tie
 
-slice-write-words-5 : tie.Need-slice-write-words-5
-slice-write-words-5 c = simp length-set (omega (arith, c .before .before .before .pre))
-
-slice-write-words-6 : tie.Need-slice-write-words-6
-slice-write-words-6 c = simp length-set (omega (arith, c .before .before .before .pre))
-
-slice-write-words-7 : tie.Need-slice-write-words-7
-slice-write-words-7 c = simp length-set (omega (arith, c .before .before .before .pre))
-
 abbrev answerIn : Answer → ℕ → ℕ → List ℕ
 answerIn a line addon = a .code ∷ a .address ∷ a .value ∷ a .enables ∷ line ∷ addon ∷ a .changed ∷ []
 
@@ -32,4 +23,4 @@ returns c =
 
 pub put-answer-spec : {M : Type 1} → statement M
 put-answer-spec =
-    tie.close (tie.spec (λ c κs. search needs) (λ c κs. search needs) (λ c. search needs) (λ c. search needs) (λ c. search needs) (λ c. search needs) slice-write-words-5 slice-write-words-6 slice-write-words-7 (λ c. search needs) returns)
+    tie.close (tie.spec (λ c κs. search needs) (λ c κs. search needs) (λ c. search needs) (λ c. search needs) (λ c. search needs) (λ c. search needs) (λ c. simp length-set (omega (arith, c .before .before .before .pre))) (λ c. simp length-set (omega (arith, c .before .before .before .pre))) (λ c. simp length-set (omega (arith, c .before .before .before .pre))) (λ c. search needs) returns)

@@ -62,27 +62,6 @@ slice-write-words c =
     let l = now (f .args .words) in
     omega (arith, f .pre, c .before .before .before .before .before .before .before .before .before .before .before .free-place .ensures, mod-lt (getD l 30 0 + getD l 31 0) {m = 8} (omega arith))
 
-slice-write-words-2 : tie.Need-slice-write-words-2
-slice-write-words-2 c = simp length-set (omega (arith, c .before .before .before .before .before .before .before .before .before .before .before .before .before .before .before .before .before .before .before .before .before .before .before .before .before .before .before .pre))
-
-slice-write-words-3 : tie.Need-slice-write-words-3
-slice-write-words-3 c = simp length-set (omega (arith, c .before .before .before .before .before .before .before .before .before .before .before .before .before .before .before .before .before .before .before .before .before .before .before .before .before .before .before .pre))
-
-slice-write-words-4 : tie.Need-slice-write-words-4
-slice-write-words-4 c = simp length-set (omega (arith, c .before .before .before .before .before .before .before .before .before .before .before .before .before .before .before .before .before .before .before .before .before .before .before .before .before .before .before .pre))
-
-slice-write-words-5 : tie.Need-slice-write-words-5
-slice-write-words-5 c = simp length-set (omega (arith, c .before .before .before .before .before .before .before .before .before .before .before .before .before .before .before .before .before .before .before .before .before .before .before .before .before .before .before .pre))
-
-slice-write-words-6 : tie.Need-slice-write-words-6
-slice-write-words-6 c = simp length-set (omega (arith, c .before .before .before .before .before .before .before .before .before .before .before .before .before .before .before .before .before .before .before .before .before .before .before .before .before .before .before .pre))
-
-slice-write-words-7 : tie.Need-slice-write-words-7
-slice-write-words-7 c = simp length-set (omega (arith, c .before .before .before .before .before .before .before .before .before .before .before .before .before .before .before .before .before .before .before .before .before .before .before .before .before .before .before .pre))
-
-same-length-3 : tie.Need-same-length-3
-same-length-3 c = simp length-set
-
 returns-3 : tie.Need-returns-3
 unfolding stateIn doneReply cycleWord
 returns-3 c =
@@ -121,4 +100,4 @@ returns-3 c =
 
 pub read-cycle-spec : {M : Type 1} → statement M
 read-cycle-spec =
-    tie.close (tie.spec (λ c κs. search needs) (λ c κs. search needs) (λ c. search needs) (λ c κs. search needs) (λ c. search needs) returns (λ c κs. search needs) (λ c. search needs) returns-2 (λ c κs. search needs) (λ c. search needs) (λ c. search needs) (λ c κs. search needs) (λ c. search needs) shared-slice-read-shown (λ c κs. search needs) (λ c. search needs) (λ c. search needs) (λ c κs. search needs) (λ c κs. search needs) (λ c. search needs) (λ c κs. search needs) (λ c. search needs) (λ c κs. search needs) (λ c κs. search needs) (λ c κs. search needs) (λ c. search needs) (λ c κs. search needs) (λ c κs. search needs) (λ c. search needs) (λ c. search needs) slice-write-words slice-write-words-2 slice-write-words-3 slice-write-words-4 slice-write-words-5 slice-write-words-6 slice-write-words-7 (λ c κs. search needs) same-length-3 returns-3)
+    tie.close (tie.spec (λ c κs. search needs) (λ c κs. search needs) (λ c. search needs) (λ c κs. search needs) (λ c. search needs) returns (λ c κs. search needs) (λ c. search needs) returns-2 (λ c κs. search needs) (λ c. search needs) (λ c. search needs) (λ c κs. search needs) (λ c. search needs) shared-slice-read-shown (λ c κs. search needs) (λ c. search needs) (λ c. search needs) (λ c κs. search needs) (λ c κs. search needs) (λ c. search needs) (λ c κs. search needs) (λ c. search needs) (λ c κs. search needs) (λ c κs. search needs) (λ c κs. search needs) (λ c. search needs) (λ c κs. search needs) (λ c κs. search needs) (λ c. search needs) (λ c. search needs) slice-write-words (λ c. simp length-set (omega (arith, c .before .before .before .before .before .before .before .before .before .before .before .before .before .before .before .before .before .before .before .before .before .before .before .before .before .before .before .pre))) (λ c. simp length-set (omega (arith, c .before .before .before .before .before .before .before .before .before .before .before .before .before .before .before .before .before .before .before .before .before .before .before .before .before .before .before .pre))) (λ c. simp length-set (omega (arith, c .before .before .before .before .before .before .before .before .before .before .before .before .before .before .before .before .before .before .before .before .before .before .before .before .before .before .before .pre))) (λ c. simp length-set (omega (arith, c .before .before .before .before .before .before .before .before .before .before .before .before .before .before .before .before .before .before .before .before .before .before .before .before .before .before .before .pre))) (λ c. simp length-set (omega (arith, c .before .before .before .before .before .before .before .before .before .before .before .before .before .before .before .before .before .before .before .before .before .before .before .before .before .before .before .pre))) (λ c. simp length-set (omega (arith, c .before .before .before .before .before .before .before .before .before .before .before .before .before .before .before .before .before .before .before .before .before .before .before .before .before .before .before .pre))) (λ c κs. search needs) (λ c. simp length-set) returns-3)

@@ -19,18 +19,6 @@ abbrev μ-loop : tie.MeasureT-loop
 loop-holds : tie.Need-loop-holds Inv-loop μ-loop
 loop-holds c = (c .before .pre, omega arith, refl)
 
-mul-words : tie.Need-mul-words Inv-loop μ-loop
-mul-words c = search needs
-
-slice-write-words : tie.Need-slice-write-words Inv-loop μ-loop
-slice-write-words c = search needs
-
-add-i : tie.Need-add-i Inv-loop μ-loop
-add-i c = search needs
-
-loop-less : tie.Need-loop-less Inv-loop μ-loop
-loop-less c = omega (arith, c .loop-test .taken, c .before .loop .inv .0)
-
 loop-again : tie.Need-loop-again Inv-loop μ-loop
 loop-again c =
     let l = c .before .loop in
@@ -39,9 +27,6 @@ loop-again c =
       omega (arith, here, l .inv .0),
       rw add-one (take-suc-set (l .words) (l .i) 0 here ∙ ap (λ (t : List ℕ). t ++ (0 ∷ [])) (l .inv .2) ∙ replicate-append-replicate (l .i) 1 0 ∙ ap (λ n. replicate n 0) (add-one (l .i))),
     )
-
-answered-requires : tie.Need-answered-requires Inv-loop μ-loop
-answered-requires c κs = search needs
 
 same-length : tie.Need-same-length Inv-loop μ-loop
 same-length c = c .before .before .loop .inv .0 ∙ sym (c .before .before .before .before .pre)
@@ -54,4 +39,4 @@ returns c =
 
 pub reset-spec : {M : Type 1} → statement M
 reset-spec =
-    tie.close (tie.spec Inv-loop μ-loop loop-holds mul-words slice-write-words add-i loop-less loop-again answered-requires same-length returns)
+    tie.close (tie.spec Inv-loop μ-loop loop-holds (λ c. search needs) (λ c. search needs) (λ c. search needs) (λ c. omega (arith, c .loop-test .taken, c .before .loop .inv .0)) loop-again (λ c κs. search needs) same-length returns)

@@ -30,9 +30,6 @@ returns c =
 returns-2 : tie.Need-returns-2
 returns-2 c = record { state = rw (ne-eqb _ 0 (c .if2 .taken)); rights = λ h. h; refused = λ e. refl }
 
-slice-write-words-2 : tie.Need-slice-write-words-2
-slice-write-words-2 c = rw length-set (omega (arith, c .before .before .before .before .before .before .before .before .before .before .before .before .pre))
-
 returns-3 : tie.Need-returns-3
 unfolding stateIn settled
 returns-3 c =
@@ -56,4 +53,4 @@ returns-3 c =
 
 pub settle-spec : {M : Type 1} → statement M
 settle-spec =
-    tie.close (tie.spec (λ c κs. search needs) (λ c. search needs) returns (λ c. search needs) returns-2 (λ c κs. search needs) (λ c κs. search needs) (λ c κs. search needs) (λ c κs. search needs) (λ c. search needs) slice-write-words-2 (λ c. search needs) returns-3)
+    tie.close (tie.spec (λ c κs. search needs) (λ c. search needs) returns (λ c. search needs) returns-2 (λ c κs. search needs) (λ c κs. search needs) (λ c κs. search needs) (λ c κs. search needs) (λ c. search needs) (λ c. rw length-set (omega (arith, c .before .before .before .before .before .before .before .before .before .before .before .before .pre))) (λ c. search needs) returns-3)
