@@ -15,7 +15,8 @@ use Rattle.machine.specs.declared.Step.{Step}
 use Rattle.machine.specs.declared.Answer.{Answer}
 use Rattle.laws.proofs.Refused.{refused}
 use Rattle.promises.specs.Theorems.{AbortOnly}
-use Rattle.promises.proofs.Refused.{numbered, aborted}
+use Rattle.promises.proofs.CodeTable.{at-most-13}
+use Rattle.promises.proofs.Refused.{aborted}
 use Rattle.bank.specs.Words.{oneIf, stateOfWords, isController}
 use Rattle.bank.proofs.Words.{zeros-are-reset}
 use Rattle.driver.proofs.Words.{of-none, of-one}
@@ -70,7 +71,7 @@ step-call-unique words start memory s answer = unique-by words start memory s an
 module _ (words : List ℕ) (start : ℕ) (memory : List ℕ) (s : Step) where
   code-by : (one : Bool) → cond one (stepOf (stateOfWords words) start memory s) (noController words memory) .answer .code ≤ 13
   unfolding answered
-  code-by true = numbered (stateOfWords words) start memory s
+  code-by true = at-most-13 (stateOfWords words) start memory s
   code-by false = omega arith
 
   pub code-most : stepOfWords words start memory s .answer .code ≤ 13

@@ -1,5 +1,5 @@
 -- Only code 13 sets the master abort bit.
-use Prim.Native.Nat.{ℕ, _≤_}
+use Prim.Native.Nat.{ℕ}
 use mathlib.Core.Path.{_≡_, refl, ap, _∙_}
 use mathlib.Core.Bool.{Bool, true, false, not, _&&_, _||_, and-false, or-true}
 use mathlib.Core.List.{List}
@@ -13,13 +13,14 @@ use Rattle.machine.specs.State.{State, lane}
 use Rattle.machine.specs.Access.{Access, accessOf, cycles}
 use Rattle.machine.specs.Window.{inside}
 use Rattle.machine.specs.Interrupts.{abortIn}
-use Rattle.machine.specs.Code.{tests, isAbortStanding, isNoMemory, testOf}
-use Rattle.machine.specs.Step.{stepOf, Outcome}
+use Rattle.machine.specs.Code.{codeOf, tests, isAbortStanding, isNoMemory, testOf}
+use Rattle.machine.specs.Step.{stepOf, respond, answered, Outcome}
 use Rattle.promises.specs.Theorems.{OnlyAborts}
 use Rattle.machine.specs.declared.Step.{Step}
-use Rattle.laws.proofs.Tests.{neither, or-left, and-left, and-at}
+use Rattle.laws.proofs.Tests.{neither, any-none, or-left, and-left, and-at}
 use Rattle.laws.proofs.Bits.{bit-zero}
-use Rattle.promises.proofs.Refused.{lowest, refused, aborted}
+use Rattle.promises.proofs.Refused.{refused, aborted}
+use Rattle.promises.proofs.First.{before, none-before, first-code}
 use Rattle.promises.proofs.Readings.{kept-bits}
 use Rattle.promises.proofs.Events.{event-rule}
 use Rattle.promises.proofs.Registers.{reset-rule}
@@ -44,15 +45,13 @@ module _ (st : State) (start : ℕ) (memory : List ℕ) (s : Step) where
   o = stepOf st start memory s
 
   clear-before : o .answer .code ≡ 13 → bit (st .intcsr) 20 ≡ false
+  unfolding stepOf respond answered
   clear-before e =
       let ts = tests st start (length memory) (accessOf s) in
-      let low = lowest st start memory s in
-      let applies : testOf 13 ts ≡ true = rw e at (low .applies (rw e)) in
-      no-abort st start (length memory) (accessOf s) applies (by (testOf 11 ts) refl (λ q. low .least 11 q .1))
-    where
-      by : (b : Bool) → isAbortStanding st (accessOf s) ≡ b → (isAbortStanding st (accessOf s) ≡ true → o .answer .code ≤ 11) → isAbortStanding st (accessOf s) ≡ false
-      by true q f = absurd (omega (arith, f q))
-      by false q f = q
+      let low = first-code st start (length memory) (accessOf s) in
+      let code : codeOf st start (length memory) (accessOf s) ≡ 13 = e in
+      let applies : testOf 13 ts ≡ true = rw code at (low .applies (rw code)) in
+      no-abort st start (length memory) (accessOf s) applies (any-none (before 13 ts) (none-before 13 ts (rw code at (low .first))) 10)
 
   never-both : (b : Bool) → (not b && b) ≡ false
   never-both true = refl

@@ -32,7 +32,8 @@ use Rattle.laws.proofs.Tests.{and-right}
 use Rattle.promises.proofs.Bytes.{shown-lt}
 use Rattle.laws.proofs.Marks.{marks-lt}
 use Rattle.laws.proofs.Status.{status-small}
-use Rattle.promises.proofs.Refused.{numbered, refused, aborted}
+use Rattle.promises.proofs.Refused.{refused, aborted}
+use Rattle.promises.proofs.CodeTable.{at-most-13}
 use Rattle.promises.proofs.Answers.{changed-is, answer-rule}
 
 -- ---- lists
@@ -282,7 +283,7 @@ module _ (st : State) (start : ℕ) (memory : List ℕ) (s : Step) (h : StateFit
   by-code true absent p q =
       let r = answer-rule st start memory s (eqb-true (o .answer .code) 0 p) in
       record {
-        code = omega (arith, numbered st start memory s);
+        code = omega (arith, at-most-13 st start memory s);
         address = rw (r .address) (at-lt (2 ^ 32) (addresses st) (s .kind) z (z, (z, (z, (z, (h .fromAddon .address, (h .fromPci .address, (z, tt))))))));
         value = rw (r .value) (at-lt (2 ^ 32) (values st start memory s) (s .kind) z values-fit);
         enables = rw (r .enables) (at-lt 16 (lowestEnables st) (s .kind) (omega arith) (omega arith, (omega arith, (omega arith, (omega arith, (low-lt (st .fromAddon .count), (low-lt (st .fromPci .count), (omega arith, tt))))))));
@@ -293,7 +294,7 @@ module _ (st : State) (start : ℕ) (memory : List ℕ) (s : Step) (h : StateFit
       let where-to : cycleAddress st s < 2 ^ 32 = below-cond (eqb (s .kind) 4) (h .fromAddon .address) (below-cond (eqb (s .kind) 5) (h .fromPci .address) z) in
       rw a (record { code = omega arith; address = where-to; value = z; enables = omega arith; changed = z })
   by-code false false p q =
-      let c : o .answer .code ≤ 14 = omega (arith, numbered st start memory s) in
+      let c : o .answer .code ≤ 14 = omega (arith, at-most-13 st start memory s) in
       rw (ap (λ (t : Outcome). t .answer) (refused st start memory s p q)) (record { code = c; address = z; value = z; enables = omega arith; changed = z })
 
 answer-fits : (st : State) (start : ℕ) (memory : List ℕ) (s : Step) → StateFits st → WordsFit memory → AnswerFits (stepOf st start memory s .answer)

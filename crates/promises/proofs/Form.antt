@@ -15,7 +15,7 @@ use Rattle.machine.specs.Run.{run}
 use Rattle.promises.specs.Account.{Every}
 use Rattle.promises.specs.Theorems.{FormKept, NeverOutOfForm}
 use Rattle.machine.specs.declared.Step.{Step}
-use Rattle.promises.proofs.Refused.{lowest-code}
+use Rattle.promises.proofs.First.{first-code}
 use Rattle.laws.proofs.Form as laws
 
 pub form-kept : FormKept
@@ -30,7 +30,7 @@ in-form-code st start words x e = by (eqb (codeOf st start words x) 1) refl
     by : (b : Bool) → eqb (codeOf st start words x) 1 ≡ b → b ≡ false
     by true q =
         let one = eqb-true (codeOf st start words x) 1 q in
-        let applies : testOf 1 (tests st start words x) ≡ true = rw one at (lowest-code st start words x .applies (rw one)) in
+        let applies : testOf 1 (tests st start words x) ≡ true = rw one at (first-code st start words x .applies (rw one)) in
         sym applies ∙ e
     by false q = refl
 

@@ -1,6 +1,7 @@
 pub mod Numbers
 pub mod Bytes
 pub mod After
+pub mod First
 pub mod Refused
 pub mod Form
 pub mod FifoAccount
@@ -14,6 +15,7 @@ pub mod Registers
 pub mod Aborts
 pub mod Steps
 pub mod Answers
+pub mod CodeTable
 pub mod Messages
 pub mod Rights
 pub mod Bursts

@@ -2,6 +2,7 @@ pub mod Account
 pub mod Theorems
 pub mod Worthless
 pub mod Readings
+pub mod CodeTable
 pub mod Messages
 pub mod Rights
 pub mod Fits

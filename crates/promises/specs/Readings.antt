@@ -98,9 +98,10 @@ AgcstsReadBits = (st : State) → AgcstsStatus st
 
 -- ---- of the registers and the window
 
--- the offset is one of a list
+-- a number, as an offset, is one of a list
 abbrev pub isOneOf : List ℕ → ℕ → Bool
-isOneOf offsets offset = anyOf (map (eqb offset) offsets)
+isOneOf [] n = false
+isOneOf (x ∷ xs) n = eqb n x || isOneOf xs n
 
 -- the offsets of PCI's table, and of the Add-On's
 abbrev pub pciOffsets : List ℕ

@@ -1,16 +1,15 @@
 -- What is proved of the machine: a statement for each promise. The proofs are in proofs/, each under the name that stands beside its statement.
-use Prim.Native.Nat.{ℕ, _/_, _%_, _≤_, _<_}
+use Prim.Native.Nat.{ℕ, _/_, _%_, _<_}
 use mathlib.Core.Path.{_≡_}
-use mathlib.Core.Bool.{Bool, true, false, cond, not, _&&_, _||_}
-use mathlib.Core.List.{List, [], _∷_, _++_, map}
+use mathlib.Core.Bool.{true, false, cond, not, _&&_, _||_}
+use mathlib.Core.List.{List, _++_}
 use lib.Dec.{eqb}
-use lib.ListN.{length, getD}
+use lib.ListN.{getD}
 use Rattle.machine.specs.Words.{bit}
 use Rattle.machine.specs.Sides.{Side}
 use Rattle.machine.specs.State.{State, held, resetState}
-use Rattle.machine.specs.Access.{Access, accessOf}
 use Rattle.machine.specs.Interrupts.{lineOf}
-use Rattle.machine.specs.Code.{tests, testOf, isOutOfForm}
+use Rattle.machine.specs.Code.{isOutOfForm}
 use Rattle.machine.specs.Step.{stepOf, notAFrame}
 use Rattle.machine.specs.Event.{Event, loggedAnswers}
 use Rattle.machine.specs.Run.{Rule, runOf, run}
@@ -18,11 +17,7 @@ use Rattle.promises.specs.Account.{tally, latest, wasWrite, byteOf, last
 use Rattle.machine.specs.declared.Step.{Step}
 use Rattle.machine.specs.declared.Answer.{Answer}
 
--- ---- demand 1: every step, on every state, memory and set of numbers
-
--- `numbered`: the code is one of 0 to 13
-abbrev pub Numbered : Type 0
-Numbered = (st : State) (start : ℕ) (memory : List ℕ) (s : Step) → stepOf st start memory s .answer .code ≤ 13
+-- ---- demand 1: every step, on every state, memory and set of numbers; which code it answers is in `CodeTable`
 
 -- an answer that only refuses: nothing but the code, and the lines of the state (low for code 1)
 abbrev pub refusal : ℕ → State → Answer
@@ -72,22 +67,6 @@ abbrev pub OnlyAborts : Type 0
 OnlyAborts =
     (st : State) (start : ℕ) (memory : List ℕ) (s : Step)
     → (let o = stepOf st start memory s in AbortsOnlyBy (o .answer .code) st (o .state))
-
--- `lowest`: the code given applies, unless it is 0, and no code that applies is lower than it; with 0, none applies
-pub record Lowest (code : ℕ) (ts : List (ℕ × Bool)) : Type 0 where
-  pub applies : eqb code 0 ≡ false → testOf code ts ≡ true
-  pub least : (c : ℕ) → testOf c ts ≡ true → (eqb code 0 ≡ false) × (code ≤ c)
-
-abbrev pub LowestCode : Type 0
-LowestCode =
-    (st : State) (start : ℕ) (memory : List ℕ) (s : Step)
-    → Lowest (stepOf st start memory s .answer .code) (tests st start (length memory) (accessOf s))
-
--- `every-code`: the tests are those of the codes 1 to 13, each once, in that order
-abbrev pub EveryCode : Type 0
-EveryCode =
-    (st : State) (start words : ℕ) (x : Access)
-    → map (λ (t : ℕ × Bool). t .0) (tests st start words x) ≡ 1 ∷ 2 ∷ 3 ∷ 4 ∷ 5 ∷ 6 ∷ 7 ∷ 8 ∷ 9 ∷ 10 ∷ 11 ∷ 12 ∷ 13 ∷ []
 
 -- ---- form
 
