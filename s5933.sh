@@ -88,22 +88,43 @@ run_rt() {
     started=()
 }
 
-# For rt its stamp of a program stands for the program, even if that is lost.
+# on_pages CRATE FILE: its object, from a file of rt's, in which the loop over a piece of frames and each C call begin on a page; it is
+# target/pages/CRATE.o. An emulator is slower where a loop crosses pages, which else is left to where a linker happens to put it.
+on_pages() {
+    local section out=$target/pages/$1.o sections=(log::feed_bytes s5933_{log,step,hex_length,hex_export,hex_load})
+    mkdir -p -- "$target/pages"
+    {
+        echo 'SECTIONS {'
+        for section in "${sections[@]}"; do echo ".text.$section : ALIGN(4096) { *(.text.$section) }"; done
+        echo '}'
+    } >"$out.ld"
+    "$(kit_tools)/bin/ld.lld" -r -m elf_x86_64 -T "$out.ld" -o "$out" --whole-archive "$2" || die 2 "could not make $out"
+}
+
+# For rt its stamp of a program stands for the program and its object, even if they are lost. What rt proved and compiled is linked anew,
+# as rt links it but on pages.
 make_program() { # CRATE
-    [ -s "${file[$1]}" ] || rm -f -- "$target/stamp/$1"
+    local object=$target/obj/$1.o new=${file[$1]}.new kit
+    { [ -s "${file[$1]}" ] && [ -s "$object" ]; } || rm -f -- "$target/stamp/$1"
     run_rt check "$1"
+    on_pages "$1" "$object"
+    kit=$(kit_tools)
+    { "${kit%/*}/bin/rattle-link" --target x86_64-unknown-linux-gnu --toolchain "$kit" -o "$new" "$target/pages/$1.o" \
+        "${kit%/on/*}/lib/libos_c.a" 2>"$new.said" &&
+        mv -f -- "$new" "${file[$1]}"; } || { cat -- "$new.said" >&2; die 2 "could not link $1"; }
 }
 
 # rt compiles each crate by itself, so that no function has callers in both, and archives its object; the kit's llvm-ar puts the objects
 # into one archive, the same bytes for the same objects.
 make_archive() { # NAME
-    local crate archives=() new=${file[$1]}.new
+    local crate objects=() new=${file[$1]}.new
     for crate in ${made_of[$1]}; do
         run_rt staticlib "$crate"
-        archives+=("$target/staticlib/lib$crate.a")
+        on_pages "$crate" "$target/staticlib/lib$crate.a"
+        objects+=("$target/pages/$crate.o")
     done
     rm -f -- "$new"
-    { "$(kit_tools)/bin/llvm-ar" qcLsD "$new" "${archives[@]}" && mv -f -- "$new" "${file[$1]}"; } || die 2 "could not make ${file[$1]}"
+    { "$(kit_tools)/bin/llvm-ar" qcsD "$new" "${objects[@]}" && mv -f -- "$new" "${file[$1]}"; } || die 2 "could not make ${file[$1]}"
 }
 
 # The mark comes last.

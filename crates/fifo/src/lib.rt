@@ -14,6 +14,11 @@ const DEPTH: u32 = 8;
 // The words, or the room for words, that MCSR 9 and 13 ask for and that its status tells of.
 const FOUR_WORDS: u32 = 4;
 
+// The most words that leave room for one more, and for four.
+const ROOM_FOR_ONE: u32 = 7;
+
+const ROOM_FOR_FOUR: u32 = 4;
+
 pub struct Fifo {
     pub words: [u32; 8],
     pub head: u32,
@@ -70,15 +75,14 @@ pub fn has_words(fill: WordFill, four: bool) -> bool
     need.0 <= fill.0
 }
 
-// For how many more words there is room.
-fn room(fill: WordFill) -> WordFill
-    ensures { λ r. ⌜ r .0 ≡ 8 - fill .0 ⌝ }
+// Of the most words that leave room, those for one more or for four.
+fn most(four: bool) -> WordFill
+    ensures { λ r. ⌜ r .0 ≡ cond four 4 7 ⌝ }
 {
-    let n = fill.0;
-    if n < DEPTH {
-        WordFill(DEPTH - n)
+    if four {
+        WordFill(ROOM_FOR_FOUR)
     } else {
-        WordFill(0)
+        WordFill(ROOM_FOR_ONE)
     }
 }
 
@@ -86,8 +90,8 @@ fn room(fill: WordFill) -> WordFill
 pub fn has_room(fill: WordFill, four: bool) -> bool
     ensures { λ r. ⌜ r ≡ leb (cond four 4 1) (8 - fill .0) ⌝ }
 {
-    let need = needed(four);
-    need.0 <= room(fill).0
+    let most = most(four);
+    fill.0 <= most.0
 }
 
 // The fill when a word has come in, if there was room.
