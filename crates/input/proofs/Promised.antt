@@ -9,7 +9,8 @@ use Rattle.machine.specs.State.{State}
 use Rattle.controller.specs.Controller.{stateOf}
 use Rattle.lines.specs.Lines.{lines}
 use Rattle.logline.specs.Labels.{englishSet}
-use Rattle.logline.specs.LogLine.{unknownSet, refusal, lineRoom}
+use Rattle.machine.specs.Codes.{unknownLabelSet}
+use Rattle.logline.specs.LogLine.{refusing, refusal, lineRoom}
 use Rattle.logline.proofs.Labels.{line-fits}
 use Rattle.log.specs.declared.Logged.{Logged}
 use Rattle.log.specs.declared.Logged.the-variants.{Written, NoRoom}
@@ -106,7 +107,7 @@ module _ (i : Input) (start : ℕ) (memory out : List ℕ) where
 
 pub refusal-fits : length refusal ≤ lineRoom
 unfolding refusal
-refusal-fits = line-fits englishSet unknownSet
+refusal-fits = line-fits englishSet (refusing unknownLabelSet)
 
 pub refusal-after-fits : (r : Reading) → length (refusalAfter r) ≤ lineRoom
 unfolding refusalAfter

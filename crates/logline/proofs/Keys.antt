@@ -4,8 +4,8 @@ use mathlib.Core.Path.{_≡_, refl, sym, ap, _∙_}
 use mathlib.Core.Bool.{Bool, true, false, cond, _&&_}
 use mathlib.Core.List.{List, [], _∷_, _++_, append-assoc}
 use native.Mathlib.Omega.{arith}
-use lib.Dec.{eqb, lit<}
-use borrow.Author.Tests.{eqb-true, eq-eqb, ltb-true}
+use lib.Dec.{eqb, ltb, lit<}
+use borrow.Author.Tests.{eqb-true, eq-eqb, ltb-true, ltb-false, lt-ltb}
 use lib.ListN.{length, take, length-append}
 use lib.Seq.{take-append-seam, drop-append-seam}
 use Rattle.machine.specs.Event.{logged}
@@ -13,9 +13,10 @@ use Rattle.machine.specs.declared.Answer.{Answer}
 use Rattle.hex.specs.Hex.{bytes, digits, number}
 use Rattle.laws.proofs.Below.{below, below-at}
 use Rattle.hex.proofs.Numbers.{length-digits, number-digits}
-use Rattle.logline.specs.Labels.{english, german, labelSets, isSet, labelOf}
+use Rattle.logline.specs.Labels.{english, german, labelSets, isSet, labelIn, labelOf}
 use Rattle.logline.specs.LogLine.{numbers, logBody, logLine}
 use Rattle.logline.specs.Promises.{LabelsDiffer}
+use Rattle.logline.proofs.Labels.{past-24}
 
 -- ---- labels, by a test of every pair
 
@@ -30,24 +31,30 @@ unfolding same
 same-self [] = refl
 same-self (x ∷ xs) = rw (eq-eqb x x refl) (same-self xs)
 
--- alike only if they are of one code
+-- alike only if they are of one code, or there is none
 alone : ℕ → ℕ → ℕ → Bool
-alone set code other = cond (same (labelOf set code) (labelOf set other)) (eqb code other) true
+alone set code other = cond (ltb 0 (length (labelOf set code))) (cond (same (labelOf set code) (labelOf set other)) (eqb code other) true) true
 
 allAlone : ℕ → Bool
-allAlone set = below (λ code. below (λ other. alone set code other) 16) 16
+allAlone set = below (λ code. below (λ other. alone set code other) 25) 25
 
 all-alone : (set : ℕ) → isSet set ≡ true → allAlone set ≡ true
-unfolding labelSets english german isSet labelOf same alone allAlone
+unfolding labelSets english german isSet labelIn labelOf same alone allAlone
 all-alone set s = below-at allAlone (length labelSets) set refl (ltb-true set (length labelSets) s)
+
+-- a code that has a label is at most 24
+few : (set code : ℕ) (b : Bool) → ltb code 25 ≡ b → 0 < length (labelOf set code) → code < 25
+few set code true e h = ltb-true code 25 e
+few set code false e h = absurd (let none = past-24 set code (ltb-false code 25 e) in let z : 0 < 0 = rw (← ap length none) h in omega arith)
 
 pub labels-differ : LabelsDiffer
 unfolding alone allAlone
-labels-differ set code other s h k e =
-    let row = below-at (λ c. below (λ o. alone set c o) 16) 16 code (all-alone set s) h in
-    let one = below-at (λ o. alone set code o) 16 other row k in
+labels-differ set code other s there e =
+    let also : 0 < length (labelOf set other) = rw (← e) there in
+    let row = below-at (λ c. below (λ o. alone set c o) 25) 25 code (all-alone set s) (few set code (ltb code 25) refl there) in
+    let one = below-at (λ o. alone set code o) 25 other row (few set other (ltb other 25) refl also) in
     let like : same (labelOf set code) (labelOf set other) ≡ true = rw (← e) (same-self (labelOf set code)) in
-    eqb-true code other (rw like at one)
+    eqb-true code other (rw (lt-ltb 0 (length (labelOf set code)) there, like) at one)
 
 -- ---- digits
 

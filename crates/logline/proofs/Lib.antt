@@ -4,4 +4,3 @@ pub mod Labels
 pub mod Bytes
 pub mod Keys
 pub mod Room
-pub mod ToolLabels

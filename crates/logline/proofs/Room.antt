@@ -9,7 +9,7 @@ use lib.ListN.{length}
 use lib.Dec.{leb}
 use Rattle.machine.specs.declared.Answer.{Answer}
 use Rattle.hex.specs.Hex.{hexDigits, digitOf, digits}
-use Rattle.logline.specs.Labels.{english, labelSets, labelOf}
+use Rattle.logline.specs.Labels.{english, labelSets, labelIn, labelOf}
 use Rattle.logline.specs.LogLine.{numbers, logBody, logLine, refusal, lineRoom, lineIn}
 use Rattle.logline.specs.Promises.{LineRoom, MarksUnlogged, RefusalLine}
 use Rattle.logline.proofs.Labels.{line-fits}
@@ -39,5 +39,5 @@ unfolding logLine logBody numbers
 marks-unlogged set a b e = ap (logLine set) e
 
 pub refusal-line : RefusalLine
-unfolding refusal logLine logBody numbers digits digitOf hexDigits labelOf labelSets english
+unfolding refusal logLine logBody numbers digits digitOf hexDigits labelIn labelOf labelSets english
 refusal-line = refl

@@ -24,13 +24,13 @@ logBody set a = numbers a ++ bytes " " ++ labelOf set (a .code)
 unfoldable pub logLine : ℕ → Answer → List ℕ
 logLine set a = logBody set a ++ bytes "\n"
 
--- an unknown label set is answered by code 15 and nothing else (document 02, Ask 1)
-abbrev pub unknownSet : Answer
-unknownSet = record { code = unknownLabelSet; address = 0; value = 0; enables = 0; line = false; «addon_line» = false; changed = 0 }
+-- a refusal that answers no step and no line of a log has a code and nothing else: an unknown label set (document 02, Ask 1), a HEX text or its room (Ask 7)
+abbrev pub refusing : ℕ → Answer
+refusing code = record { code = code; address = 0; value = 0; enables = 0; line = false; «addon_line» = false; changed = 0 }
 
--- the one line that refuses it, with its English label
+-- the one line that refuses an unknown label set, with its English label
 unfoldable pub refusal : List ℕ
-refusal = logLine englishSet unknownSet
+refusal = logLine englishSet (refusing unknownLabelSet)
 
 -- the room that is asked for each line: no log line is longer (`line-fits`)
 abbrev pub lineRoom : ℕ

@@ -2,27 +2,27 @@
 use Prim.Native.Nat.{ℕ, _+_, _≤_, _<_}
 use mathlib.Core.Path.{_≡_}
 use mathlib.Core.List.{List, []}
-use mathlib.Core.Bool.{Bool, true, _&&_}
+use mathlib.Core.Bool.{Bool, true, _&&_, _||_}
 use lib.ListN.{length, getD}
-use lib.Dec.{leb, ltb}
+use lib.Dec.{eqb, leb, ltb}
 use Rattle.machine.specs.Event.{logged}
 use Rattle.machine.specs.declared.Answer.{Answer}
 use Rattle.hex.specs.Hex.{bytes}
 use Rattle.logline.specs.Wrote.{Wrote}
-use Rattle.logline.specs.Labels.{labelSets, isSet, labelOf}
+use Rattle.logline.specs.Labels.{isSet, labelOf}
 use Rattle.logline.specs.LogLine.{logLine, refusal, lineIn}
 
 -- `labels-short`: no label is above 18 bytes, in any set
 abbrev pub LabelsShort : Type 0
 LabelsShort = (set code : ℕ) → length (labelOf set code) ≤ 18
 
+-- `labels-there`: a set has a label that isn't empty for each code from 0 to 19 and for 24, and for no other number
+abbrev pub LabelsThere : Type 0
+LabelsThere = (set code : ℕ) → isSet set ≡ true → ltb 0 (length (labelOf set code)) ≡ (ltb code 20 || eqb code 24)
+
 -- `labels-differ`: no two of a set are alike
 abbrev pub LabelsDiffer : Type 0
-LabelsDiffer = (set code other : ℕ) → isSet set ≡ true → code < 16 → other < 16 → labelOf set code ≡ labelOf set other → code ≡ other
-
--- `labels-there`: a set has a label for each code from 0 to 15 that isn't empty, and no other
-abbrev pub LabelsThere : Type 0
-LabelsThere = (set : ℕ) → isSet set ≡ true → (length (getD labelSets set []) ≡ 16) × ((code : ℕ) → code < 16 → 0 < length (labelOf set code))
+LabelsDiffer = (set code other : ℕ) → isSet set ≡ true → 0 < length (labelOf set code) → labelOf set code ≡ labelOf set other → code ≡ other
 
 -- a letter, a digit or a sign of ASCII, or a space
 abbrev pub isPlain : ℕ → Bool

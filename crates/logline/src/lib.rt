@@ -2,14 +2,13 @@
 ghost use mathlib.Core.Path.{_≡_};
 ghost use Prim.Native.Nat.{_+_, _≤_};
 ghost use mathlib.Core.Bool.{cond};
-ghost use mathlib.Core.List.{[], _++_};
-ghost use lib.ListN.{length, getD};
+ghost use mathlib.Core.List.{_++_};
+ghost use lib.ListN.{length};
 ghost use Rattle.hex.specs.Hex.{bytes, digits};
 ghost use Rattle.eight.specs.Written.{bytesOf};
 ghost use Rattle.logline.specs.Wrote.{Wrote};
-ghost use Rattle.logline.specs.Labels.{english, german, englishSet, isSet, labelOf};
-ghost use Rattle.logline.specs.LogLine.{numbers, unknownSet, lineIn};
-ghost use Rattle.logline.specs.ToolLabels.{toolLine, toolLineIn};
+ghost use Rattle.logline.specs.Labels.{english, german, isSet, labelIn, labelOf};
+ghost use Rattle.logline.specs.LogLine.{numbers, refusing, lineIn};
 use machine::Answer;
 
 // The most bytes that a log line has.
@@ -65,30 +64,45 @@ fn put(out: &mut [u8], at: usize, src: &[u8]) -> usize
     at + i
 }
 
-// Each label is a byte string in the arm of its code; a function has eight, since its check grows faster than its arms.
+// Each label is a byte string in the arm of its code; a function has eight at most, since its check grows faster than its arms.
 
-// The English labels of the codes from 8 on, by the code less 8.
-fn put_english_8(out: &mut [u8], at: usize, code_less_8: u32) -> usize
-    requires { ⌜ at + 18 ≤ length (now out) ⌝ }
-    ensures { λ r. ⌜ Wrote (now (out .entry)) at (getD english (8 + code_less_8) []) r (now (out .exit)) ⌝ }
+// The English labels of the codes from 16 on.
+fn put_english_16(out: &mut [u8], at: usize, code: u32) -> usize
+    requires { ⌜ (at + 18 ≤ length (now out)) × (16 ≤ code) ⌝ }
+    ensures { λ r. ⌜ Wrote (now (out .entry)) at (labelIn english code) r (now (out .exit)) ⌝ }
 {
-    match code_less_8 {
-        0 => put(out, at, b"FIFO full or empty"),
-        1 => put(out, at, b"transfer off"),
-        2 => put(out, at, b"count is zero"),
-        3 => put(out, at, b"abort stands"),
-        4 => put(out, at, b"FIFO not ready"),
-        5 => put(out, at, b"no memory there"),
-        6 => put(out, at, b"not a frame line"),
-        7 => put(out, at, b"unknown label set"),
+    match code {
+        16 => put(out, at, b"not a HEX record"),
+        17 => put(out, at, b"wrong sum"),
+        18 => put(out, at, b"outside the window"),
+        19 => put(out, at, b"no end or not last"),
+        24 => put(out, at, b"output too short"),
         _ => at,
     }
 }
 
-// The English labels, by the code.
+// The English labels of the codes from 8 on.
+fn put_english_8(out: &mut [u8], at: usize, code: u32) -> usize
+    requires { ⌜ (at + 18 ≤ length (now out)) × (8 ≤ code) ⌝ }
+    ensures { λ r. ⌜ Wrote (now (out .entry)) at (labelIn english code) r (now (out .exit)) ⌝ }
+{
+    match code {
+        8 => put(out, at, b"FIFO full or empty"),
+        9 => put(out, at, b"transfer off"),
+        10 => put(out, at, b"count is zero"),
+        11 => put(out, at, b"abort stands"),
+        12 => put(out, at, b"FIFO not ready"),
+        13 => put(out, at, b"no memory there"),
+        14 => put(out, at, b"not a frame line"),
+        15 => put(out, at, b"unknown label set"),
+        _ => put_english_16(out, at, code),
+    }
+}
+
+// The English labels.
 fn put_english(out: &mut [u8], at: usize, code: u32) -> usize
     requires { ⌜ at + 18 ≤ length (now out) ⌝ }
-    ensures { λ r. ⌜ Wrote (now (out .entry)) at (getD english code []) r (now (out .exit)) ⌝ }
+    ensures { λ r. ⌜ Wrote (now (out .entry)) at (labelIn english code) r (now (out .exit)) ⌝ }
 {
     match code {
         0 => put(out, at, b"done"),
@@ -99,32 +113,47 @@ fn put_english(out: &mut [u8], at: usize, code: u32) -> usize
         5 => put(out, at, b"bad enables"),
         6 => put(out, at, b"part FIFO access"),
         7 => put(out, at, b"read-only register"),
-        _ => put_english_8(out, at, code - 8),
+        _ => put_english_8(out, at, code),
     }
 }
 
-// The German labels of the codes from 8 on, by the code less 8.
-fn put_german_8(out: &mut [u8], at: usize, code_less_8: u32) -> usize
-    requires { ⌜ at + 18 ≤ length (now out) ⌝ }
-    ensures { λ r. ⌜ Wrote (now (out .entry)) at (getD german (8 + code_less_8) []) r (now (out .exit)) ⌝ }
+// The German labels of the codes from 16 on.
+fn put_german_16(out: &mut [u8], at: usize, code: u32) -> usize
+    requires { ⌜ (at + 18 ≤ length (now out)) × (16 ≤ code) ⌝ }
+    ensures { λ r. ⌜ Wrote (now (out .entry)) at (labelIn german code) r (now (out .exit)) ⌝ }
 {
-    match code_less_8 {
-        0 => put(out, at, b"FIFO voll/leer"),
-        1 => put(out, at, b"Transfer aus"),
-        2 => put(out, at, b"Zaehler ist null"),
-        3 => put(out, at, b"Abbruch steht an"),
-        4 => put(out, at, b"FIFO nicht bereit"),
-        5 => put(out, at, b"kein Speicher dort"),
-        6 => put(out, at, b"keine Rahmenzeile"),
-        7 => put(out, at, b"Textsatz unbekannt"),
+    match code {
+        16 => put(out, at, b"kein HEX-Satz"),
+        17 => put(out, at, b"Summe falsch"),
+        18 => put(out, at, b"nicht im Fenster"),
+        19 => put(out, at, b"Ende fehlt/frueh"),
+        24 => put(out, at, b"Ausgabe zu kurz"),
         _ => at,
     }
 }
 
-// The German labels, by the code.
+// The German labels of the codes from 8 on.
+fn put_german_8(out: &mut [u8], at: usize, code: u32) -> usize
+    requires { ⌜ (at + 18 ≤ length (now out)) × (8 ≤ code) ⌝ }
+    ensures { λ r. ⌜ Wrote (now (out .entry)) at (labelIn german code) r (now (out .exit)) ⌝ }
+{
+    match code {
+        8 => put(out, at, b"FIFO voll/leer"),
+        9 => put(out, at, b"Transfer aus"),
+        10 => put(out, at, b"Zaehler ist null"),
+        11 => put(out, at, b"Abbruch steht an"),
+        12 => put(out, at, b"FIFO nicht bereit"),
+        13 => put(out, at, b"kein Speicher dort"),
+        14 => put(out, at, b"keine Rahmenzeile"),
+        15 => put(out, at, b"Textsatz unbekannt"),
+        _ => put_german_16(out, at, code),
+    }
+}
+
+// The German labels.
 fn put_german(out: &mut [u8], at: usize, code: u32) -> usize
     requires { ⌜ at + 18 ≤ length (now out) ⌝ }
-    ensures { λ r. ⌜ Wrote (now (out .entry)) at (getD german code []) r (now (out .exit)) ⌝ }
+    ensures { λ r. ⌜ Wrote (now (out .entry)) at (labelIn german code) r (now (out .exit)) ⌝ }
 {
     match code {
         0 => put(out, at, b"erledigt"),
@@ -135,7 +164,7 @@ fn put_german(out: &mut [u8], at: usize, code: u32) -> usize
         5 => put(out, at, b"Freigabe ungueltig"),
         6 => put(out, at, b"FIFO-Teilzugriff"),
         7 => put(out, at, b"nur lesbar"),
-        _ => put_german_8(out, at, code - 8),
+        _ => put_german_8(out, at, code),
     }
 }
 
@@ -220,73 +249,19 @@ pub fn put_line(out: &mut [u8], at: usize, a: Answer, set: u32) -> usize
     end + 1
 }
 
-// Writes the line that refuses an unknown label set, with its English label, at the output's start, and answers the place past
-// it. Where there is no room for 41 bytes it writes nothing.
-pub fn put_refusal(out: &mut [u8]) -> usize
-    ensures { λ r. ⌜ Wrote (now (out .entry)) 0 (lineIn englishSet (now (out .entry)) 0 unknownSet) r (now (out .exit)) ⌝ }
+// Writes the line of a refusal that answers no step and no line, with the label of a set, at the output's start, and answers the place
+// past it. Where there is no room for 41 bytes it writes nothing.
+pub fn put_refusal(out: &mut [u8], code: u32, set: u32) -> usize
+    ensures { λ r. ⌜ Wrote (now (out .entry)) 0 (lineIn set (now (out .entry)) 0 (refusing code)) r (now (out .exit)) ⌝ }
 {
-    if out.len() < LINE_ROOM {
-        return 0;
-    }
-    put(out, 0, b"0F0000000000000000000 unknown label set\n")
-}
-
-// ---- refusals that answer no step and no line: of windows as HEX texts
-
-// The first code of these.
-const TOOL_CODES: u32 = 16;
-
-// Their lines in English, by the code less 16; a number without a label has none. Below, in German.
-fn put_tool_english(out: &mut [u8], code_less_16: u32) -> usize
-    requires { ⌜ 41 ≤ length (now out) ⌝ }
-    ensures { λ r. ⌜ Wrote (now (out .entry)) 0 (toolLine 0 (16 + code_less_16)) r (now (out .exit)) ⌝ }
-{
-    match code_less_16 {
-        0 => put(out, 0, b"100000000000000000000 not a HEX record\n"),
-        1 => put(out, 0, b"110000000000000000000 wrong sum\n"),
-        2 => put(out, 0, b"120000000000000000000 outside the window\n"),
-        3 => put(out, 0, b"130000000000000000000 no end or not last\n"),
-        4 => 0,
-        5 => 0,
-        6 => 0,
-        7 => 0,
-        8 => put(out, 0, b"180000000000000000000 output too short\n"),
-        _ => 0,
-    }
-}
-
-fn put_tool_german(out: &mut [u8], code_less_16: u32) -> usize
-    requires { ⌜ 41 ≤ length (now out) ⌝ }
-    ensures { λ r. ⌜ Wrote (now (out .entry)) 0 (toolLine 1 (16 + code_less_16)) r (now (out .exit)) ⌝ }
-{
-    match code_less_16 {
-        0 => put(out, 0, b"100000000000000000000 kein HEX-Satz\n"),
-        1 => put(out, 0, b"110000000000000000000 Summe falsch\n"),
-        2 => put(out, 0, b"120000000000000000000 nicht im Fenster\n"),
-        3 => put(out, 0, b"130000000000000000000 Ende fehlt/frueh\n"),
-        4 => 0,
-        5 => 0,
-        6 => 0,
-        7 => 0,
-        8 => put(out, 0, b"180000000000000000000 Ausgabe zu kurz\n"),
-        _ => 0,
-    }
-}
-
-// Writes the line of such a refusal, with the label of a set, at the output's start, and answers the place past it. It writes
-// nothing where there is no room for 41 bytes, for another code, and for a number that is no set.
-pub fn put_tool_refusal(out: &mut [u8], code: u32, set: u32) -> usize
-    ensures { λ r. ⌜ Wrote (now (out .entry)) 0 (toolLineIn set (now (out .entry)) code) r (now (out .exit)) ⌝ }
-{
-    if out.len() < LINE_ROOM {
-        return 0;
-    }
-    if code < TOOL_CODES {
-        return 0;
-    }
-    match set {
-        0 => put_tool_english(out, code - TOOL_CODES),
-        1 => put_tool_german(out, code - TOOL_CODES),
-        _ => 0,
-    }
+    let a = Answer {
+        code,
+        address: 0,
+        value: 0,
+        enables: 0,
+        line: false,
+        addon_line: false,
+        changed: 0,
+    };
+    put_line(out, 0, a, set)
 }

@@ -9,12 +9,9 @@ use lib.ListN.{length, length-append}
 use lib.Dec.{ltb, leb}
 use Rattle.machine.specs.Window.{isWindowOutOfForm}
 use Rattle.lines.specs.Lines.{lines}
-use Rattle.logline.specs.Labels.{englishSet}
-use Rattle.logline.specs.LogLine.{logLine, unknownSet, lineRoom, lineIn}
-use Rattle.logline.specs.ToolLabels.{toolLine, toolLineIn}
+use Rattle.logline.specs.LogLine.{refusing, logLine, lineRoom, lineIn}
 use Rattle.logline.specs.Wrote.{Wrote}
 use Rattle.logline.proofs.Labels.{line-fits}
-use Rattle.logline.proofs.ToolLabels.{tool-line-fits}
 use Rattle.logline.proofs.Stores.{wrote-length}
 use Rattle.controller.specs.declared.Controller.{Controller}
 use Rattle.log.specs.declared.Logged.the-variants.{NoRoom}
@@ -64,13 +61,9 @@ module _ (line out : List ℕ) (fits : length line ≤ lineRoom) where
   line-within : {r : ℕ} {out′ : List ℕ} → Wrote out 0 (cond (leb lineRoom (length out)) line []) r out′ → r ≤ length out′
   line-within w = omega (arith, w .next, wrote-length w, line-by (leb lineRoom (length out)) refl)
 
-pub refusal-within : {out : List ℕ} {r : ℕ} {out′ : List ℕ} → Wrote out 0 (lineIn englishSet out 0 unknownSet) r out′ → r ≤ length out′
+pub refusal-within : (set code : ℕ) {out : List ℕ} {r : ℕ} {out′ : List ℕ} → Wrote out 0 (lineIn set out 0 (refusing code)) r out′ → r ≤ length out′
 unfolding lineIn
-refusal-within {out} = line-within (logLine englishSet unknownSet) out (line-fits englishSet unknownSet)
-
-pub tool-refusal-within : (set code : ℕ) {out : List ℕ} {r : ℕ} {out′ : List ℕ} → Wrote out 0 (toolLineIn set out code) r out′ → r ≤ length out′
-unfolding toolLineIn
-tool-refusal-within set code {out} = line-within (toolLine set code) out (tool-line-fits set code)
+refusal-within set code {out} = line-within (logLine set (refusing code)) out (line-fits set (refusing code))
 
 -- ---- an export
 

@@ -66,12 +66,12 @@ fn write_log(log: Logged, out: &[u8], is_shown: bool) -> bool
 
 // Writes the line that refuses an unknown set; below, a HEX text.
 fn refuse_set(out: &mut [u8]) -> Ended {
-    let n = logline::put_refusal(out);
+    let n = logline::put_refusal(out, codes::UNKNOWN_LABEL_SET, logline::ENGLISH);
     after_write(write_first(out, n), Ended::UnknownSet)
 }
 
 fn refuse(out: &mut [u8], code: u32, set: u32) -> Ended {
-    let n = logline::put_tool_refusal(out, code, set);
+    let n = logline::put_refusal(out, code, set);
     after_write(write_first(out, n), Ended::Refused)
 }
 
