@@ -1,8 +1,7 @@
-// The address registers, and the place of an address in a window.
+// The address registers.
 ghost use mathlib.Core.Path.{_≡_};
 ghost use mathlib.Core.Bool.{cond};
 ghost use lib.Dec.{eqb};
-ghost use Rattle.machine.specs.Window.{placeOf};
 ghost use Rattle.machine.specs.Words.{written};
 ghost use Rattle.machine.specs.Cycles.{addressKept, nextAddress};
 use machine::Step;
@@ -10,13 +9,6 @@ use machine::WORD_BYTES;
 
 // The bits that an address keeps: 31 to 2.
 const KEPT: u32 = 0xFFFF_FFFC;
-
-// The place of an address in a window that begins at start.
-pub fn place(start: u32, address: u32) -> u32
-    ensures { λ r. ⌜ r ≡ placeOf start address ⌝ }
-{
-    std::num::wrapping_sub_u32(address, start) / WORD_BYTES
-}
 
 // The next word's address; past the highest one comes 0.
 pub fn next_address(address: u32) -> u32

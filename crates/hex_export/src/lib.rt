@@ -262,7 +262,7 @@ fn put_text(out: &mut [u8], memory: &[u32], start: u32) -> usize
 pub fn export_length(words: usize, start: u32) -> Exported
     ensures { λ r. ⌜ r ≡ lengthOf start words ⌝ }
 {
-    if refusal::is_window_out_of_form(start, words) {
+    if window::is_window_out_of_form(start, words) {
         return Exported::Refused(codes::WINDOW_OUT_OF_FORM);
     }
     Exported::Written(text_length(words, start))
@@ -273,7 +273,7 @@ pub fn export_length(words: usize, start: u32) -> Exported
 pub fn export(memory: &[u32], start: u32, out: &mut [u8]) -> Exported
     ensures { λ r. ⌜ record { answer = r; out = now (out .exit) } ≡ exportedTo start (now (memory .entry)) (now (out .entry)) ⌝ }
 {
-    if refusal::is_window_out_of_form(start, memory.len()) {
+    if window::is_window_out_of_form(start, memory.len()) {
         return Exported::Refused(codes::WINDOW_OUT_OF_FORM);
     }
     let n = text_length(memory.len(), start);

@@ -418,7 +418,7 @@ fn store_text(memory: &mut [u32], start: u32, text: &[u8])
 pub fn load(memory: &mut [u32], start: u32, text: &[u8]) -> u32
     ensures { λ r. ⌜ record { code = r; words = now (memory .exit) } ≡ loadOf start (now (memory .entry)) (now (text .entry)) ⌝ }
 {
-    if refusal::is_window_out_of_form(start, memory.len()) {
+    if window::is_window_out_of_form(start, memory.len()) {
         return codes::WINDOW_OUT_OF_FORM;
     }
     let code = text_code(text, start, memory.len());

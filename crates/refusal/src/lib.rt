@@ -8,7 +8,6 @@ ghost use Rattle.machine.specs.Sides as sides;
 ghost use Rattle.machine.specs.State.{lane};
 ghost use Rattle.machine.specs.Access.{accessOf};
 ghost use Rattle.machine.specs.Offsets.{inTable, isReadOnly};
-ghost use Rattle.machine.specs.Window.{inside, isWindowOutOfForm};
 ghost use Rattle.machine.specs.Rights.{ended};
 ghost use Rattle.machine.specs.Code.{isUnknownOffset, isReadOnlyWrite, isFullOrEmpty};
 ghost use Rattle.bank.specs.Bank.{stateIn};
@@ -20,9 +19,6 @@ use machine::WORD_BYTES;
 use machine::codes;
 use machine::kinds;
 use machine::offsets;
-
-// The most words that a window may have.
-const WINDOW_MAX: usize = 16384;
 
 // Code 1, of both lanes: a fill, an address, a count. Each pair stands together: the compiler makes one test of it.
 fn are_lanes_out_of_form(b: Bank) -> bool
@@ -44,13 +40,6 @@ fn is_right_wrong(b: Bank) -> bool
     b.read_right & rights::is_read_ended(b) | b.write_right & rights::is_write_ended(b)
 }
 
-// Code 2, window out of form.
-pub fn is_window_out_of_form(start: u32, words: usize) -> bool
-    ensures { λ r. ⌜ r ≡ isWindowOutOfForm start words ⌝ }
-{
-    (start % WORD_BYTES != 0) | (WINDOW_MAX < words)
-}
-
 // Codes 1 and 2, or done: no step changes which.
 pub fn form(b: Bank, start: u32, words: usize) -> u32
     ensures { λ r. ⌜ ((mail pci addon : List ℕ) → r ≡ formCode (stateIn b mail pci addon) start words) ⌝ }
@@ -65,7 +54,7 @@ pub fn form(b: Bank, start: u32, words: usize) -> u32
     if is_right_wrong(b) {
         return codes::STATE_OUT_OF_FORM;
     }
-    if is_window_out_of_form(start, words) {
+    if window::is_window_out_of_form(start, words) {
         return codes::WINDOW_OUT_OF_FORM;
     }
     codes::DONE
@@ -155,13 +144,6 @@ pub fn access_code(b: Bank, s: Step) -> u32
     codes::DONE
 }
 
-// Whether an address belongs to a memory of so many words.
-fn is_inside(start: u32, words: usize, address: u32) -> bool
-    ensures { λ r. ⌜ r ≡ inside start words address ⌝ }
-{
-    (address::place(start, address) as usize) < words
-}
-
 // Codes 9 to 13, or done, of a write cycle.
 pub fn write_cycle_code(b: Bank, start: u32, words: usize) -> u32
     ensures { λ r. ⌜ (r < 14) × ((mail pci addon : List ℕ) → r ≡ cycleCode sides.addon (stateIn b mail pci addon) start words) ⌝ }
@@ -179,7 +161,7 @@ pub fn write_cycle_code(b: Bank, start: u32, words: usize) -> u32
     if !fifo::has_words(b.addon_fill, four) {
         return codes::FIFO_NOT_READY;
     }
-    if !is_inside(start, words, b.write_address) {
+    if !window::is_inside(start, words, b.write_address) {
         return codes::NO_MEMORY_THERE;
     }
     codes::DONE
@@ -202,7 +184,7 @@ pub fn read_cycle_code(b: Bank, start: u32, words: usize) -> u32
     if !fifo::has_room(b.pci_fill, four) {
         return codes::FIFO_NOT_READY;
     }
-    if !is_inside(start, words, b.read_address) {
+    if !window::is_inside(start, words, b.read_address) {
         return codes::NO_MEMORY_THERE;
     }
     codes::DONE

@@ -468,7 +468,7 @@ fn write_cycle(words: &mut [u32], memory: &mut [u32], start: u32) -> Answer
     if code != codes::DONE {
         return refused(b, code);
     }
-    let at = address::place(start, address) as usize;
+    let at = window::place(start, address) as usize;
     let head = words[bank::ADDON_HEAD];
     let front = fifo::front_place(head);
     let x = words[bank::ADDON_AT + front];
@@ -507,7 +507,7 @@ fn read_cycle(words: &mut [u32], memory: &[u32], start: u32) -> Answer
     if code != codes::DONE {
         return refused(b, code);
     }
-    let at = address::place(start, address) as usize;
+    let at = window::place(start, address) as usize;
     let count = ByteCount(words[bank::READ_COUNT]);
     let e = count::low_enables(count);
     let x = word::shown(memory[at], e);

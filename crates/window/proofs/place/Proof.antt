@@ -2,10 +2,10 @@ use Prim.Native.Nat.{ℕ, _/_}
 use mathlib.Core.Path.{ap}
 use native.Mathlib.Omega.{arith}
 use Rattle.machine.specs.Window.{placeOf}
-use Rattle.address.proofs.Laws.{minus-is}
+use Rattle.window.proofs.Laws.{minus-is}
 use borrow.Author.Needs.{needs}
-use Rattle.address.proofs.place.Statement.{statement}
-use Rattle.address.proofs.place.Tie as tie
+use Rattle.window.proofs.place.Statement.{statement}
+use Rattle.window.proofs.place.Tie as tie
 
 returns : tie.Need-returns
 unfolding placeOf

@@ -1,6 +1,6 @@
 use borrow.Author.Needs.{needs}
-use Rattle.refusal.proofs.is_inside.Statement.{statement}
-use Rattle.refusal.proofs.is_inside.Tie as tie
+use Rattle.window.proofs.is_inside.Statement.{statement}
+use Rattle.window.proofs.is_inside.Tie as tie
 
 returns : tie.Need-returns
 returns c = simp (c .place .ensures)

@@ -1,7 +1,7 @@
 use mathlib.Core.Path.{refl}
 use Rattle.machine.specs.Window.{isWindowOutOfForm}
-use Rattle.refusal.proofs.is_window_out_of_form.Statement.{statement}
-use Rattle.refusal.proofs.is_window_out_of_form.Tie as tie
+use Rattle.window.proofs.is_window_out_of_form.Statement.{statement}
+use Rattle.window.proofs.is_window_out_of_form.Tie as tie
 
 returns : tie.Need-returns
 unfolding isWindowOutOfForm
