@@ -13,7 +13,7 @@ use Rattle.records.specs.Export.{exportOf, exportLength}
 use Rattle.records.proofs.Length.{export-length}
 use Rattle.records.proofs.Promises.{good-window}
 use Rattle.hex_export.specs.declared.Exported.the-variants.{Written, Refused}
-use Rattle.logline.specs.Wrote.{Wrote}
+use Rattle.output.specs.Wrote.{Wrote}
 use Rattle.hex_export.specs.Results.{lengthOf, exportedTo}
 
 pub length-bad : (start words : ℕ) → isWindowOutOfForm start words ≡ true → Refused 2 ≡ lengthOf start words

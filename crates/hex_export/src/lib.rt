@@ -7,7 +7,7 @@ ghost use lib.ListN.{length, take, drop};
 ghost use lib.Dec.{eqb};
 ghost use Rattle.hex.specs.Hex.{digits};
 ghost use Rattle.eight.specs.Written.{bytesOf};
-ghost use Rattle.logline.specs.Wrote.{Wrote};
+ghost use Rattle.output.specs.Wrote.{Wrote};
 ghost use Rattle.records.specs.Window.{windowBytes};
 ghost use Rattle.records.specs.Record.{total, hexes, textOf, texts};
 ghost use Rattle.records.specs.Export.{upperOf, upperRecord, dataRecord, endRecord, changed, cut, exportOf, exportLength};

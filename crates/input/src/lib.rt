@@ -7,7 +7,7 @@ ghost use lib.ListN.{length};
 ghost use Rattle.machine.specs.State.{resetState};
 ghost use Rattle.controller.specs.Controller.{stateOf};
 ghost use Rattle.logline.specs.LogLine.{refusal, lineRoom};
-ghost use Rattle.logline.specs.Wrote.{Wrote};
+ghost use Rattle.output.specs.Wrote.{Wrote};
 ghost use Rattle.log.specs.Results.{begunOf};
 ghost use Rattle.input.specs.declared.Reading.the-variants.{FirstLine};
 ghost use Rattle.input.specs.declared.SetLine.the-variants.{Nothing};

@@ -7,7 +7,7 @@ use Rattle.machine.specs.State.{State}
 use Rattle.controller.specs.Controller.{stateOf}
 use Rattle.lines.specs.Lines.{lines, linesFrom}
 use Rattle.lines.proofs.Lines.{lines-end}
-use Rattle.logline.proofs.Stores.{wrote-then}
+use Rattle.output.proofs.Wrote.{wrote-then}
 use Rattle.log.specs.declared.Streaming.{Streaming}
 use Rattle.log.specs.Log.{TextOutcome, linesOutcome, after, textOutcome, PieceOutcome, pieceOutcome}
 use Rattle.log.specs.Results.{begunOf, PieceLogged, TextLogged}

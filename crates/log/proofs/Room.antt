@@ -9,7 +9,7 @@ use borrow.Author.Tests.{lt-ltb, le-ltb}
 use lib.ListN.{length}
 use lib.Seq.{sets-eq}
 use Rattle.logline.specs.LogLine.{lineRoom}
-use Rattle.logline.specs.Wrote.{Wrote}
+use Rattle.output.specs.Wrote.{Wrote}
 use Rattle.log.specs.Results.{isShort, withLog}
 
 module _ (most : ℕ) (out : List ℕ) where

@@ -11,7 +11,7 @@ use Rattle.controller.specs.declared.Controller.{Controller}
 use Rattle.lines.specs.Lines.{lines}
 use Rattle.frame.specs.Frame.{framedOutcome}
 use Rattle.logline.specs.LogLine.{lineRoom}
-use Rattle.logline.specs.Wrote.{Wrote}
+use Rattle.output.specs.Wrote.{Wrote}
 use Rattle.log.specs.declared.Logged.{Logged}
 use Rattle.log.specs.declared.Logged.the-variants.{Written, NoRoom}
 use Rattle.log.specs.declared.Ran.{Ran}

@@ -1,4 +1,3 @@
-pub mod Wrote
 pub mod Labels
 pub mod LogLine
 pub mod Promises

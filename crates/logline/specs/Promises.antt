@@ -8,7 +8,6 @@ use lib.Dec.{eqb, leb, ltb}
 use Rattle.machine.specs.Event.{logged}
 use Rattle.machine.specs.declared.Answer.{Answer}
 use Rattle.hex.specs.Hex.{bytes}
-use Rattle.logline.specs.Wrote.{Wrote}
 use Rattle.logline.specs.Labels.{isSet, labelOf}
 use Rattle.logline.specs.LogLine.{logLine, refusal, lineIn}
 
@@ -49,7 +48,3 @@ MarksUnlogged = (set : ℕ) (a b : Answer) → logged a ≡ logged b → logLine
 -- `refusal-line`: the line that refuses an unknown set, byte for byte
 abbrev pub RefusalLine : Type 0
 RefusalLine = refusal ≡ bytes "0F0000000000000000000 unknown label set\n"
-
--- `wrote-unique`: two results that meet one contract of writing are the same, and so are the outputs
-abbrev pub WroteUnique : Type 0
-WroteUnique = (out : List ℕ) (at : ℕ) (written : List ℕ) (r q : ℕ) (after also : List ℕ) → Wrote out at written r after → Wrote out at written q also → (r ≡ q) × (after ≡ also)

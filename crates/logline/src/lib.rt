@@ -6,7 +6,7 @@ ghost use mathlib.Core.List.{_++_};
 ghost use lib.ListN.{length};
 ghost use Rattle.hex.specs.Hex.{bytes, digits};
 ghost use Rattle.eight.specs.Written.{bytesOf};
-ghost use Rattle.logline.specs.Wrote.{Wrote};
+ghost use Rattle.output.specs.Wrote.{Wrote};
 ghost use Rattle.logline.specs.Labels.{english, german, isSet, labelIn, labelOf};
 ghost use Rattle.logline.specs.LogLine.{numbers, refusing, lineIn};
 use machine::Answer;

@@ -10,9 +10,9 @@ use lib.Dec.{ltb, leb}
 use Rattle.machine.specs.Window.{isWindowOutOfForm}
 use Rattle.lines.specs.Lines.{lines}
 use Rattle.logline.specs.LogLine.{refusing, logLine, lineRoom, lineIn}
-use Rattle.logline.specs.Wrote.{Wrote}
+use Rattle.output.specs.Wrote.{Wrote}
 use Rattle.logline.proofs.Labels.{line-fits}
-use Rattle.logline.proofs.Stores.{wrote-length}
+use Rattle.output.proofs.Wrote.{wrote-length}
 use Rattle.controller.specs.declared.Controller.{Controller}
 use Rattle.log.specs.declared.Logged.the-variants.{NoRoom}
 use Rattle.log.specs.declared.Stream.{Stream}

@@ -1,6 +1,6 @@
 use denote.Ref.{now}
 use native.Mathlib.Omega.{arith}
-use Rattle.logline.proofs.Stores.{wrote-then}
+use Rattle.output.proofs.Wrote.{wrote-then}
 use Rattle.hex_export.proofs.Bytes.{total-four, hexes-four}
 use borrow.Author.Needs.{needs}
 use Rattle.hex_export.proofs.put_all.Statement.{statement}

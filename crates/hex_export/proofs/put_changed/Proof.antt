@@ -1,6 +1,6 @@
 use mathlib.Core.Path.{ap, _∙_}
 use lib.ListN.{length}
-use Rattle.logline.proofs.Stores.{wrote-none}
+use Rattle.output.proofs.Wrote.{wrote-none}
 use Rattle.hex_export.proofs.Texts.{same-none, other-one, length-upper}
 use native.Mathlib.Omega.{arith}
 use borrow.Author.Needs.{needs}

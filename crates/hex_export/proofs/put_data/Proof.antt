@@ -6,7 +6,7 @@ use lib.ListN.{length, take, drop, length-drop}
 use lib.Seq.{length-take-le}
 use Rattle.records.specs.Window.{windowBytes}
 use Rattle.records.proofs.Bytes.{length-bytes}
-use Rattle.logline.proofs.Stores.{wrote-then}
+use Rattle.output.proofs.Wrote.{wrote-then}
 use Rattle.hex_export.proofs.Bytes.{data-text}
 use borrow.Author.Needs.{needs}
 use Rattle.hex_export.proofs.put_data.Statement.{statement}

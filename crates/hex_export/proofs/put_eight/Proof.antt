@@ -1,5 +1,5 @@
 use native.Mathlib.Omega.{arith}
-use Rattle.logline.proofs.Stores.{wrote-then}
+use Rattle.output.proofs.Wrote.{wrote-then}
 use Rattle.hex_export.proofs.Bytes.{eight-bytes}
 use borrow.Author.Needs.{needs}
 use Rattle.hex_export.proofs.put_eight.Statement.{statement}

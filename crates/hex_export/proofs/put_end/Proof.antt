@@ -1,7 +1,7 @@
 use Rattle.hex.specs.Hex.{digits}
 use Rattle.records.specs.Record.{hexes, total}
 use Rattle.records.specs.Export.{endRecord}
-use Rattle.logline.proofs.Stores.{wrote-then}
+use Rattle.output.proofs.Wrote.{wrote-then}
 use Rattle.hex_export.proofs.Bytes.{parts, front-total}
 use native.Mathlib.Omega.{arith}
 use borrow.Author.Needs.{needs}

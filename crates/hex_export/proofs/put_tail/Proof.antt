@@ -1,7 +1,7 @@
 use mathlib.Core.List.{append-nil}
 use native.Mathlib.Omega.{arith}
 use Rattle.records.specs.Record.{hexes}
-use Rattle.logline.proofs.Stores.{wrote-then}
+use Rattle.output.proofs.Wrote.{wrote-then}
 use Rattle.hex_export.proofs.Bytes.{last-two}
 use borrow.Author.Needs.{needs}
 use Rattle.hex_export.proofs.put_tail.Statement.{statement}

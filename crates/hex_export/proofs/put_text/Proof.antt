@@ -8,8 +8,8 @@ use lib.ListN.{length, drop}
 use Rattle.records.specs.Window.{windowBytes}
 use Rattle.records.specs.Export.{endRecord}
 use Rattle.records.proofs.Read.{length-text}
-use Rattle.logline.specs.Wrote.{Wrote}
-use Rattle.logline.proofs.Stores.{wrote-none, wrote-then}
+use Rattle.output.specs.Wrote.{Wrote}
+use Rattle.output.proofs.Wrote.{wrote-none, wrote-then}
 use Rattle.hex_export.proofs.Texts.{restText, text-start, length-start, length-upper, WordTurn, word-turn, text-last}
 use borrow.Author.Needs.{needs}
 use Rattle.hex_export.proofs.put_text.Statement.{statement}

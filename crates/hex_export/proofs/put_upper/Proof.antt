@@ -2,7 +2,7 @@ use Prim.Native.Nat.{_+_, _/_, _%_}
 use native.Mathlib.Omega.{arith}
 use Rattle.records.specs.Record.{total}
 use Rattle.records.specs.Export.{upperRecord}
-use Rattle.logline.proofs.Stores.{wrote-then}
+use Rattle.output.proofs.Wrote.{wrote-then}
 use Rattle.hex_export.proofs.Bytes.{last-four, parts, front-total}
 use borrow.Author.Needs.{needs}
 use Rattle.hex_export.proofs.put_upper.Statement.{statement}

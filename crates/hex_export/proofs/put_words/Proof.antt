@@ -5,8 +5,8 @@ use native.Mathlib.Omega.{arith}
 use lib.ListN.{length, take, drop}
 use Rattle.records.specs.Window.{windowBytes}
 use Rattle.records.specs.Record.{total, hexes}
-use Rattle.logline.specs.Wrote.{Wrote}
-use Rattle.logline.proofs.Stores.{wrote-none, wrote-then}
+use Rattle.output.specs.Wrote.{Wrote}
+use Rattle.output.proofs.Wrote.{wrote-none, wrote-then}
 use Rattle.hex_export.proofs.Bytes.{total-more, hexes-more}
 use borrow.Author.Needs.{needs}
 use Rattle.hex_export.proofs.put_words.Statement.{statement}

@@ -1,4 +1,4 @@
-use Rattle.logline.proofs.Stores.{wrote-none}
+use Rattle.output.proofs.Wrote.{wrote-none}
 use Rattle.input.specs.Input.{refusalAfter}
 use borrow.Author.Needs.{needs}
 use Rattle.input.proofs.put_refusal_after.Statement.{statement}

@@ -6,7 +6,7 @@ use native.Mathlib.Omega.{arith}
 use lib.ListN.{length, length-take}
 use Rattle.controller.specs.Controller.{stateOf}
 use Rattle.lines.proofs.Lines.{lines-stop}
-use Rattle.logline.proofs.Stores.{wrote-none}
+use Rattle.output.proofs.Wrote.{wrote-none}
 use Rattle.log.specs.Log.{logOf, TextOutcome, linesOutcome}
 use Rattle.log.specs.Results.{begunOf}
 use Rattle.log.proofs.Carried.{bytes-length}

@@ -10,9 +10,9 @@ use Rattle.bank.specs.Words.{mailIn, pciIn, addonIn, stateOfWords}
 use Rattle.refusal.specs.Codes.{formCode}
 use Rattle.step.proofs.Answers.{at-words}
 use Rattle.logline.specs.LogLine.{lineRoom}
-use Rattle.logline.specs.Wrote.{Wrote}
+use Rattle.output.specs.Wrote.{Wrote}
 use Rattle.logline.proofs.Room.{in-room}
-use Rattle.logline.proofs.Stores.{wrote-none, wrote-then}
+use Rattle.output.proofs.Wrote.{wrote-none, wrote-then}
 use Rattle.log.specs.Log.{logOf, pieceOutcome}
 use Rattle.log.specs.Results.{begunOf}
 use Rattle.log.proofs.TextOutcome.{log-append, log-one, log-length}

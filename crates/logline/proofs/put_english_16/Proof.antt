@@ -1,7 +1,7 @@
 use mathlib.Core.Path.{refl}
 use Rattle.logline.specs.Labels.{english, labelSets, isSet, labelIn, labelOf}
 use Rattle.logline.proofs.Labels.{no-row}
-use Rattle.logline.proofs.Stores.{wrote-none}
+use Rattle.output.proofs.Wrote.{wrote-none}
 use borrow.Author.Needs.{needs}
 use Rattle.logline.proofs.put_english_16.Statement.{statement}
 use Rattle.logline.proofs.put_english_16.Tie as tie

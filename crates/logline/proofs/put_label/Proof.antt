@@ -1,7 +1,7 @@
 use Rattle.laws.proofs.Below.{none-below}
 use Rattle.logline.specs.Labels.{labelSets, labelOf}
 use Rattle.logline.proofs.Labels.{no-set}
-use Rattle.logline.proofs.Stores.{wrote-none}
+use Rattle.output.proofs.Wrote.{wrote-none}
 use borrow.Author.Needs.{needs}
 use Rattle.logline.proofs.put_label.Statement.{statement}
 use Rattle.logline.proofs.put_label.Tie as tie

@@ -3,7 +3,7 @@ use lib.ListN.{length}
 use denote.Ref.{now}
 use native.Mathlib.Omega.{arith}
 use Rattle.logline.specs.LogLine.{logBody, logLine}
-use Rattle.logline.proofs.Stores.{wrote-none, wrote-one, wrote-then, wrote-length}
+use Rattle.output.proofs.Wrote.{wrote-none, wrote-one, wrote-then, wrote-length}
 use Rattle.logline.proofs.Labels.{labels-short}
 use Rattle.logline.proofs.Room.{in-room, no-room}
 use borrow.Author.Needs.{needs}

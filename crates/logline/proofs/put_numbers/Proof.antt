@@ -1,6 +1,6 @@
 use native.Mathlib.Omega.{arith}
 use Rattle.logline.specs.LogLine.{numbers}
-use Rattle.logline.proofs.Stores.{wrote-then}
+use Rattle.output.proofs.Wrote.{wrote-then}
 use Rattle.logline.proofs.Digits.{joined}
 use borrow.Author.Needs.{needs}
 use Rattle.logline.proofs.put_numbers.Statement.{statement}
