@@ -1,27 +1,31 @@
--- The FIFO account.
-use Prim.Native.Nat.{ℕ, zero, suc}
-use mathlib.Core.Path.{_≡_, refl, sym, ap, _∙_}
-use mathlib.Core.Bool.{Bool, true, false, cond, not, _&&_, _||_, true≢false}
-use mathlib.Core.List.{List, [], _∷_, _++_, append-assoc, append-nil}
+-- The FIFO account: to each FIFO the events of a run are moves of a queue, of which the law of queues holds (`Queues`).
+use Prim.Native.Nat.{ℕ, zero, suc, _-_, _≤_, _<_}
+use mathlib.Core.Path.{_≡_, refl, sym, subst, _∙_}
+use mathlib.Core.Bool.{Bool, true, false, cond, not, _&&_, true≢false}
+use mathlib.Core.List.{List, [], _∷_, _++_, append-nil}
+use native.Mathlib.Omega.{arith}
 use lib.Dec.{eqb, leb, eqb·suc-zero}
 use lib.ListN.{length, drop}
 use Rattle.machine.specs.Words.{bit}
 use Rattle.machine.specs.Sides.{Side, pci, addon, other, host, card}
 use Rattle.machine.specs.State.{State, held, resetState}
-use Rattle.machine.specs.Access.{Access, accessOf, Kind, reading, writing, cycle, chipReset, unknown, isReset, cycles, reads, writes}
+use Rattle.machine.specs.Access.{Access, accessOf, Kind, reading, writing, cycle, chipReset, unknown, cycles, reads, writes}
 use Rattle.machine.specs.Offsets.{fifoPort}
 use Rattle.machine.specs.Commands.{clearsFifo}
-use Rattle.machine.specs.Fifos.{letIn, handedOut, fifoAfter, isEmpty, isFull, front, followed}
+use Rattle.machine.specs.Fifos.{cycleFeeds, letIn, handedOut, fifoAfter, isEmpty, isFull, front, followed}
 use Rattle.machine.specs.Cycles.{isReady, cycleWord}
 use Rattle.machine.specs.Code.{codeOf, tests, isPortStuck, isFullOrEmpty, isNotReady}
 use Rattle.machine.specs.Rights.{settled}
-use Rattle.machine.specs.Step.{replyOf, doneReply, readValue, movedState, doneState, stateAfter, abortedState, stepOf, respond, answered}
+use Rattle.machine.specs.Step.{replyOf, doneReply, readValue, movedState, doneState, abortedState, stepOf, respond, answered}
 use Rattle.machine.specs.Event.{Event}
-use Rattle.machine.specs.Run.{run}
-use Rattle.promises.specs.Account.{isDone, Tally, fresh, tallyAfter, talliedFrom}
-use Rattle.promises.specs.Theorems.{FifoAccount}
+use Rattle.machine.specs.Run.{RunOutcome, run}
+use Rattle.promises.specs.Queues.{Move, queueAfter, queueFrom, Makes, MakesAll, fresh, talliedFrom}
+use Rattle.promises.specs.Account.{clears, moveOf, movesOf}
+use Rattle.promises.specs.Theorems.{FifoAccount, FifoRoom}
 use Rattle.machine.specs.declared.Step.{Step}
 use Rattle.laws.proofs.Tests.{none-applies, neither, or-right, and-at}
+use Rattle.laws.proofs.Done.{room-to-write, room-to-read}
+use Rattle.promises.proofs.Queues.{queue-account}
 use Rattle.promises.proofs.Numbers.{in-is, out-is, clears-is}
 use Rattle.promises.proofs.After.{part-refused, part-done}
 
@@ -96,63 +100,82 @@ followed-is : (ws new : List ℕ) → followed ws new ≡ ws ++ new
 followed-is ws [] = sym (append-nil ws)
 followed-is ws (n ∷ ns) = refl
 
--- the account over one done step: `out` is handed out, `new` let in
-account-done : (cut : Bool) (ins outs ws out new : List ℕ) → ins ≡ outs ++ ws → InFront out ws
-    → cond cut [] (ins ++ new) ≡ cond cut [] (outs ++ out) ++ cond cut [] (followed (drop (length out) ws) new)
-account-done true ins outs ws out new e f = refl
-account-done false ins outs ws out new e f =
-    let rest = drop (length out) ws in
-    ap (λ (l : List ℕ). l ++ new) (e ∙ ap (λ (l : List ℕ). outs ++ l) f ∙ sym (append-assoc outs out rest))
-    ∙ append-assoc (outs ++ out) rest new
-    ∙ ap (λ (l : List ℕ). outs ++ out ++ l) (sym (followed-is rest new))
+-- what is let in has room: code 8 keeps a port write from a full FIFO, and code 12 a read cycle
+one-fits : (c w : Bool) (n out a v : ℕ) → (c ≡ true → n < 8) → (w ≡ true → n < 8) → length (cond c (a ∷ []) (cond w (v ∷ []) [])) ≤ 8 - (n - out)
+one-fits true w n out a v f g = let h = f refl in omega arith
+one-fits false true n out a v f g = let h = g refl in omega arith
+one-fits false false n out a v f g = omega arith
 
--- the account over one step, done or not
-account-step : (side : Side) (st : State) (start : ℕ) (memory : List ℕ) (x : Access) (code : ℕ) (ins outs : List ℕ)
-    → (code ≡ 0 → codeOf st start (length memory) x ≡ 0) → ins ≡ outs ++ held side st
-    → (let word = replyOf st start memory x code .value in let cut = isReset (x .kind) || clearsFifo side x in
-    cond (eqb code 0) (cond cut [] (ins ++ letIn side x word)) ins
-    ≡ cond (eqb code 0) (cond cut [] (outs ++ handedOut side x word)) outs ++ held side (stateAfter st x code word))
-unfolding replyOf
-account-step side st start memory x zero ins outs c e =
-    let word = doneReply (x .kind) st start memory x .value in
-    rw (part-done (held side) st x word (clearsFifo side x) [] _ (held-reset side) (held-done side st x word))
-    (account-done (isReset (x .kind) || clearsFifo side x) ins outs (held side st) (handedOut side x word) (letIn side x word) e (in-front side st start memory x (c refl)))
-account-step side st start memory x (suc n) ins outs c e =
-    rw (part-refused (held side) st x n (replyOf st start memory x (suc n) .value) (held-aborted side st), eqb·suc-zero n) e
+has-room : (side : Side) (st : State) (start words : ℕ) (x : Access) (word out : ℕ) → codeOf st start words x ≡ 0
+    → length (letIn side x word) ≤ 8 - (length (held side st) - out)
+unfolding codeOf
+has-room side st start words x word out e =
+    let none = none-applies (tests st start words x) refl e in
+    one-fits (cycleFeeds side x) (writes side fifoPort x) (length (held side st)) out word (x .value) (room-to-read side st x (none 12)) (room-to-write side st x (none 8))
 
--- ---- a run
+-- ---- a step is a move of a queue eight deep
 
--- the books of a FIFO are right
-record Books (side : Side) (st : State) (t : Tally) : Type 0 where
-  account : t .letIn ≡ t .handedOut ++ held side st
+module _ (side : Side) (st : State) (start : ℕ) (memory : List ℕ) (s : Step) where
+  abbrev event : ℕ → Event
+  event code = record { step = s; answer = respond st start memory (accessOf s) code .answer }
 
--- for any code that is 0 only where the step is done
-books-respond : (side : Side) (st : State) (start : ℕ) (memory : List ℕ) (s : Step) (code : ℕ) (t : Tally)
-    → (code ≡ 0 → codeOf st start (length memory) (accessOf s) ≡ 0) → Books side st t
-    → (let o = respond st start memory (accessOf s) code in Books side (o .state) (tallyAfter side t (record { step = s; answer = o .answer })))
-unfolding respond answered
-books-respond side st start memory s code t z b =
-    let o = respond st start memory (accessOf s) code in
-    let e : Event = record { step = s; answer = o .answer } in
-    record {
-      account =
-          sym (λ i. cond (isDone e) (cond (clears-is e side i) [] (t .letIn ++ in-is e side i)) (t .letIn))
-          ∙ account-step side st start memory (accessOf s) code (t .letIn) (t .handedOut) z (b .account)
-          ∙ (λ i. cond (isDone e) (cond (clears-is e side i) [] (t .handedOut ++ out-is e side i)) (t .handedOut) ++ held side (o .state));
-    }
+  -- for any code that is 0 only where the step is done
+  move-made : (code : ℕ) → (code ≡ 0 → codeOf st start (length memory) (accessOf s) ≡ 0) → Makes 8 (held side st) (moveOf side (event code))
+  unfolding respond answered replyOf
+  move-made zero c =
+      let x = accessOf s in
+      let word = doneReply (x .kind) st start memory x .value in
+      let move : Move ℕ = record { clears = clears side (event 0); letIn = letIn side x word; handedOut = handedOut side x word } in
+      let made : Makes 8 (held side st) move =
+      record { front = in-front side st start memory x (c refl); room = has-room side st start (length memory) x word (length (handedOut side x word)) (c refl) } in
+      subst (Makes 8 (held side st)) (λ i. record { clears = clears side (event 0); letIn = in-is (event 0) side i; handedOut = out-is (event 0) side i }) made
+  move-made (suc n) c = rw (eqb·suc-zero n) (record { front = refl; room = omega arith })
 
-books-step : (side : Side) (st : State) (start : ℕ) (memory : List ℕ) (s : Step) (t : Tally) → Books side st t
-    → (let o = stepOf st start memory s in Books side (o .state) (tallyAfter side t (record { step = s; answer = o .answer })))
+  move-after : (code : ℕ) → queueAfter (held side st) (moveOf side (event code)) ≡ held side (respond st start memory (accessOf s) code .state)
+  unfolding respond answered replyOf
+  move-after zero =
+      let x = accessOf s in
+      let word = doneReply (x .kind) st start memory x .value in
+      let ws = held side st in
+      sym
+      (part-done (held side) st x word (clearsFifo side x) [] _ (held-reset side) (held-done side st x word)
+      ∙ (λ i. cond (clears-is (event 0) side i) [] (followed-is (drop (length (handedOut side x word)) ws) (letIn side x word) i))
+      ∙ (λ i. cond (clears side (event 0)) [] (drop (length (out-is (event 0) side i)) ws ++ in-is (event 0) side i)))
+  move-after (suc n) =
+      rw (part-refused (held side) st (accessOf s) n (replyOf st start memory (accessOf s) (suc n) .value) (held-aborted side st), eqb·suc-zero n) (append-nil (held side st))
+
+-- ---- a run is a list of them
+
+-- a queue that holds some words makes the moves of a run, and holds at last what the FIFO does
+pub record Keeps (side : Side) (ws : List ℕ) (r : RunOutcome) : Type 0 where
+  pub makes : MakesAll 8 ws (movesOf side (r .events))
+  pub holds : queueFrom ws (movesOf side (r .events)) ≡ held side (r .state)
+
+keeps-run : (side : Side) (start : ℕ) (steps : List Step) (st : State) (memory : List ℕ) → Keeps side (held side st) (run st start memory steps)
 unfolding stepOf
-books-step side st start memory s t b = books-respond side st start memory s (codeOf st start (length memory) (accessOf s)) t (λ e. e) b
+keeps-run side start [] st memory = record { makes = tt; holds = refl }
+keeps-run side start (s ∷ ss) st memory =
+    let o = stepOf st start memory s in
+    let code = codeOf st start (length memory) (accessOf s) in
+    let rest =
+    subst (λ (ws : List ℕ). Keeps side ws (run (o .state) start (o .memory) ss)) (sym (move-after side st start memory s code)) (keeps-run side start ss (o .state) (o .memory)) in
+    record { makes = (move-made side st start memory s code (λ e. e), rest .makes); holds = rest .holds }
 
-books-run : (side : Side) (start : ℕ) (steps : List Step) (st : State) (memory : List ℕ) (t : Tally) → Books side st t
-    → (let r = run st start memory steps in Books side (r .state) (talliedFrom side t (r .events)))
-books-run side start [] st memory t b = b
-books-run side start (s ∷ ss) st memory t b = let o = stepOf st start memory s in books-run side start ss (o .state) (o .memory) _ (books-step side st start memory s t b)
+-- from reset
+pub keeps : (side : Side) (start : ℕ) (memory : List ℕ) (steps : List Step) → Keeps side [] (run resetState start memory steps)
+keeps side start memory steps =
+    subst (λ (ws : List ℕ). Keeps side ws (run resetState start memory steps)) (held-reset side) (keeps-run side start steps resetState memory)
 
-books-reset : (side : Side) → Books side resetState fresh
-books-reset side = record { account = sym (held-reset side) }
+module _ (side : Side) (start : ℕ) (memory : List ℕ) (steps : List Step) where
+  abbrev moves : List (Move ℕ)
+  moves = movesOf side (run resetState start memory steps .events)
+
+  law : (talliedFrom fresh moves .letIn ≡ talliedFrom fresh moves .handedOut ++ queueFrom [] moves) × (length (queueFrom [] moves) ≤ 8)
+  law = queue-account ℕ 8 moves (keeps side start memory steps .makes)
 
 pub fifo-account : FifoAccount
-fifo-account side start memory steps = books-run side start steps resetState memory fresh (books-reset side) .account
+fifo-account side start memory steps =
+    rw (keeps side start memory steps .holds) at (law side start memory steps .0)
+
+pub fifo-room : FifoRoom
+fifo-room side start memory steps = rw (keeps side start memory steps .holds) at (law side start memory steps .1)

@@ -4,6 +4,7 @@ pub mod After
 pub mod First
 pub mod Refused
 pub mod Form
+pub mod Queues
 pub mod FifoAccount
 pub mod TwoRuns
 pub mod MailAccount

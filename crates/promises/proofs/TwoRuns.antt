@@ -1,22 +1,23 @@
 -- Two runs from reset that differ at most in the data of FIFO port writes.
 use Prim.Native.Nat.{ℕ}
-use mathlib.Core.Path.{_≡_, refl, sym, ap, ap₂, _∙_}
-use mathlib.Core.Bool.{Bool, true, false, cond, _&&_, _||_, true≢false, and-false}
-use mathlib.Core.List.{List, [], _∷_, _++_, head-eq-of-cons-eq, tail-eq-of-cons-eq, append-nil, append-assoc}
-use native.Mathlib.Omega.{arith}
+use mathlib.Core.Path.{_≡_, refl, sym, ap, _∙_}
+use mathlib.Core.Bool.{Bool, true, false, cond, _&&_, _||_, and-false}
+use mathlib.Core.List.{List, [], _∷_, head-eq-of-cons-eq, tail-eq-of-cons-eq}
 use lib.Dec.{eqb}
 use lib.ListN.{length}
 use borrow.Author.Tests.{eqb-true}
 use Rattle.machine.specs.Words.{bit}
 use Rattle.machine.specs.Sides.{Side, pci, addon}
-use Rattle.machine.specs.State.{State, resetState}
+use Rattle.machine.specs.State.{State, held, resetState}
 use Rattle.machine.specs.Step.{stepOf}
 use Rattle.machine.specs.Event.{Event, logged, loggedAnswers}
-use Rattle.machine.specs.Run.{run}
-use Rattle.promises.specs.Account.{isDone, isKind, command, clears, wordsIn, wordsOut, Tally, fresh, tallyAfter, talliedFrom, AlikeButPortData, AllAlike, noSteps, oneMore, NoClear, accepted, SameAccepted}
+use Rattle.machine.specs.Run.{RunOutcome, run}
+use Rattle.promises.specs.Queues.{Alike, MovesAlike, NoneClears}
+use Rattle.promises.specs.Account.{isDone, isKind, command, clears, wordsIn, wordsOut, moveOf, movesOf, tally, AlikeButPortData, AllAlike, noSteps, oneMore, NoClear, SameAccepted}
 use Rattle.promises.specs.Theorems.{TwoRunsSince, TwoRuns}
 use Rattle.machine.specs.declared.Step.{Step}
-use Rattle.promises.proofs.FifoAccount.{fifo-account}
+use Rattle.promises.proofs.Queues.{queues-agree}
+use Rattle.promises.proofs.FifoAccount.{keeps}
 
 -- ---- two events alike
 
@@ -60,47 +61,6 @@ out-alike pci e f p = λ i. cond (eqb (p .steps .kind i) 2 && eqb (p .steps .off
 out-alike addon e f p =
     λ i. cond (eqb (p .steps .kind i) 4 || eqb (p .steps .kind i) 0 && eqb (p .steps .offset i) 0x20) (p .same i .value ∷ []) []
 
--- ---- the books of the two runs, but for the words let in
-record Like (t u : Tally) : Type 0 where
-  outs : t .handedOut ≡ u .handedOut
-
-like-step : (side : Side) (t u : Tally) (e f : Event) → Like t u → Twin e f → Like (tallyAfter side t e) (tallyAfter side u f)
-like-step side t u e f q p =
-    record { outs = λ i. cond (eqb (p .same i .code) 0) (cond (clears-alike side e f p i) [] (q .outs i ++ out-alike side e f p i)) (q .outs i) }
-
-like-run : (side : Side) (t u : Tally) {es fs : List Event} → Like t u → Twins es fs → Like (talliedFrom side t es) (talliedFrom side u fs)
-like-run side t u q nil = q
-like-run side t u q (cons {e = e} {f = f} p ps) = like-run side _ _ (like-step side t u e f q p) ps
-
-pub two-runs-since : TwoRunsSince
-two-runs-since side start memory ss ts a e h =
-    fifo-account side start memory ss
-    ∙ ap₂ (λ (l k : List ℕ). l ++ k) (like-run side fresh fresh (record { outs = refl }) (twins resetState resetState start memory memory a e) .outs) h
-    ∙ sym (fifo-account side start memory ts)
-
--- ---- with no clear and no reset: event by event
-
-abbrev allAccepted : Side → List Event → List ℕ
-allAccepted side [] = []
-allAccepted side (e ∷ es) = accepted side e ++ allAccepted side es
-
-uncut : (d c : Bool) (sofar ws : List ℕ) → (d && c) ≡ false → cond d (cond c [] (sofar ++ ws)) sofar ≡ sofar ++ cond d ws []
-uncut true true sofar ws e = absurd (true≢false e)
-uncut true false sofar ws e = refl
-uncut false c sofar ws e = sym (append-nil sofar)
-
-all-accepted : (side : Side) (t : Tally) (es : List Event) → NoClear side es → talliedFrom side t es .letIn ≡ t .letIn ++ allAccepted side es
-all-accepted side t [] h = sym (append-nil (t .letIn))
-all-accepted side t (e ∷ es) h =
-    all-accepted side (tallyAfter side t e) es (h .1)
-    ∙ ap (λ (l : List ℕ). l ++ allAccepted side es) (uncut (isDone e) (clears side e) (t .letIn) (wordsIn side e) (h .0))
-    ∙ append-assoc (t .letIn) (accepted side e) (allAccepted side es)
-
-no-clear-alike : (side : Side) {es fs : List Event} → Twins es fs → NoClear side es → NoClear side fs
-no-clear-alike side nil h = tt
-no-clear-alike side (cons {e = e} {f = f} p ps) h =
-    (sym (λ i. eqb (p .same i .code) 0 && clears-alike side e f p i) ∙ h .0, no-clear-alike side ps (h .1))
-
 -- how many words a done step lets in does not hang on the data
 one-or-none : (c w : Bool) (v u v′ u′ : ℕ) → length (cond c (v ∷ []) (cond w (u ∷ []) [])) ≡ length (cond c (v′ ∷ []) (cond w (u′ ∷ []) []))
 one-or-none true w v u v′ u′ = refl
@@ -119,26 +79,43 @@ done-length : (d : Bool) (xs us : List ℕ) → length xs ≡ length us → leng
 done-length true xs us e = e
 done-length false xs us e = refl
 
-accepted-length : (side : Side) (e f : Event) → Twin e f → length (accepted side e) ≡ length (accepted side f)
-accepted-length side e f p =
-    done-length (isDone e) (wordsIn side e) (wordsIn side f) (in-length side e f p) ∙ (λ i. length (cond (eqb (p .same i .code) 0) (wordsIn side f) []))
+-- ---- so they are moves alike
 
-split : (xs us ys vs : List ℕ) → length xs ≡ length us → xs ++ ys ≡ us ++ vs → (xs ≡ us) × (ys ≡ vs)
-split [] [] ys vs n e = (refl, e)
-split [] (u ∷ us) ys vs n e = absurd (omega arith)
-split (x ∷ xs) [] ys vs n e = absurd (omega arith)
-split (x ∷ xs) (u ∷ us) ys vs n e =
-    let r = split xs us ys vs (omega arith) (tail-eq-of-cons-eq e) in (ap₂ (λ (z : ℕ) (l : List ℕ). z ∷ l) (head-eq-of-cons-eq e) (r .0), r .1)
+move-alike : (side : Side) (e f : Event) → Twin e f → Alike (moveOf side e) (moveOf side f)
+move-alike side e f p =
+    let done : isDone e ≡ isDone f = λ i. eqb (p .same i .code) 0 in
+    record {
+      clears = λ i. done i && clears-alike side e f p i;
+      much = done-length (isDone e) (wordsIn side e) (wordsIn side f) (in-length side e f p) ∙ (λ i. length (cond (done i) (wordsIn side f) []));
+      handedOut = λ i. cond (done i) (out-alike side e f p i) [];
+    }
 
-agreed : (side : Side) {es fs : List Event} → Twins es fs → allAccepted side es ≡ allAccepted side fs → SameAccepted side es fs
-agreed side nil h = tt
-agreed side (cons {e = e} {f = f} {es = es} {fs = fs} p ps) h =
-    let r = split (accepted side e) (accepted side f) (allAccepted side es) (allAccepted side fs) (accepted-length side e f p) h in (r .0, agreed side ps (r .1))
+all-alike : (side : Side) {es fs : List Event} → Twins es fs → MovesAlike (movesOf side es) (movesOf side fs)
+all-alike side nil = tt
+all-alike side (cons {e = e} {f = f} p ps) = (move-alike side e f p, all-alike side ps)
+
+none-clears : (side : Side) (es : List Event) → NoClear side es → NoneClears (movesOf side es)
+none-clears side [] h = tt
+none-clears side (e ∷ es) h = (h .0, none-clears side es (h .1))
+
+-- ---- the law of two queues
+
+module _ (side : Side) (start : ℕ) (memory : List ℕ) (ss ts : List Step) (a : AllAlike ss ts) where
+  abbrev r : RunOutcome
+  r = run resetState start memory ss
+
+  abbrev q : RunOutcome
+  q = run resetState start memory ts
+
+  agree : loggedAnswers (r .events) ≡ loggedAnswers (q .events) → held side (r .state) ≡ held side (q .state)
+      → (tally side (r .events) .letIn ≡ tally side (q .events) .letIn) × (NoneClears (movesOf side (r .events)) → SameAccepted side (r .events) (q .events))
+  agree e h =
+      let k = keeps side start memory ss in
+      let l = keeps side start memory ts in
+      queues-agree ℕ 8 (movesOf side (r .events)) (movesOf side (q .events)) (all-alike side (twins resetState resetState start memory memory a e)) (k .makes) (l .makes) (k .holds ∙ h ∙ sym (l .holds))
+
+pub two-runs-since : TwoRunsSince
+two-runs-since side start memory ss ts a e h = agree side start memory ss ts a e h .0
 
 pub two-runs : TwoRuns
-two-runs start memory ss ts a e h u side =
-    let w = twins resetState resetState start memory memory a e in
-    agreed side w
-    (sym (all-accepted side fresh (run resetState start memory ss .events) (u side))
-    ∙ two-runs-since side start memory ss ts a e (h side)
-    ∙ all-accepted side fresh (run resetState start memory ts .events) (no-clear-alike side w (u side)))
+two-runs start memory ss ts a e h u side = agree side start memory ss ts a e (h side) .1 (none-clears side (run resetState start memory ss .events) (u side))

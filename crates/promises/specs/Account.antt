@@ -3,11 +3,12 @@
 use Prim.Native.Nat.{ℕ, _*_, _/_, _%_, _^_}
 use mathlib.Core.Path.{_≡_}
 use mathlib.Core.Bool.{Bool, true, false, cond, _&&_, _||_}
-use mathlib.Core.List.{List, [], _∷_, _++_}
+use mathlib.Core.List.{List, [], _∷_, map}
 use lib.Dec.{eqb, ltb}
 use Rattle.machine.specs.Words.{bit}
 use Rattle.machine.specs.Sides.{Side, pci, addon}
 use Rattle.machine.specs.Event.{Event}
+use Rattle.promises.specs.Queues.{Move, Tally, fresh, talliedFrom, accepted}
 use Rattle.machine.specs.declared.Step.{Step}
 
 abbrev pub isDone : Event → Bool
@@ -41,27 +42,16 @@ abbrev pub wordsOut : Side → Event → List ℕ
 wordsOut pci e = cond (isAt 2 0x20 e) (e .answer .value ∷ []) []
 wordsOut addon e = cond (isKind 4 e || isAt 0 0x20 e) (e .answer .value ∷ []) []
 
--- the books of a FIFO: the words let in and the words handed out since it was last emptied by a clear or reset
-pub record Tally : Type 0 where
-  pub letIn : List ℕ
-  pub handedOut : List ℕ
+-- what an event is to the FIFO: a move of a queue of words; a refused one moves nothing
+abbrev pub moveOf : Side → Event → Move ℕ
+moveOf side e = record { clears = isDone e && clears side e; letIn = cond (isDone e) (wordsIn side e) []; handedOut = cond (isDone e) (wordsOut side e) [] }
 
-abbrev pub fresh : Tally
-fresh = record { letIn = []; handedOut = [] }
+abbrev pub movesOf : Side → List Event → List (Move ℕ)
+movesOf side es = map (moveOf side) es
 
--- one list of the books after an event: a refused one leaves it, a clear ends it, any other appends its words
-abbrev pub booked : Side → Event → List ℕ → List ℕ → List ℕ
-booked side e sofar new = cond (isDone e) (cond (clears side e) [] (sofar ++ new)) sofar
-
-abbrev pub tallyAfter : Side → Tally → Event → Tally
-tallyAfter side t e = record { letIn = booked side e (t .letIn) (wordsIn side e); handedOut = booked side e (t .handedOut) (wordsOut side e) }
-
-abbrev pub talliedFrom : Side → Tally → List Event → Tally
-talliedFrom side t [] = t
-talliedFrom side t (e ∷ es) = talliedFrom side (tallyAfter side t e) es
-
-abbrev pub tally : Side → List Event → Tally
-tally side es = talliedFrom side fresh es
+-- the books of the FIFO: the words let in and the words handed out since it was last emptied by a clear or reset
+abbrev pub tally : Side → List Event → Tally ℕ
+tally side es = talliedFrom fresh (movesOf side es)
 
 -- ---- the mailboxes: byte k of the status is byte k % 4 of the mailbox at offset k / 4 * 4, outgoing if k is below 16
 
@@ -148,13 +138,6 @@ Every P (e ∷ es) = P e × Every P es
 abbrev pub NoClear : Side → List Event → Type 0
 NoClear side es = Every (λ (e : Event). (isDone e && clears side e) ≡ false) es
 
--- the words that an event had accepted into that FIFO: none if it was refused
-abbrev pub accepted : Side → Event → List ℕ
-accepted side e = cond (isDone e) (wordsIn side e) []
-
--- event by event, the accepted words agree
+-- event by event, the words accepted into that FIFO agree: those let in, none by a refused one
 abbrev pub SameAccepted : Side → List Event → List Event → Type 0
-SameAccepted side [] [] = Unit {0}
-SameAccepted side [] (f ∷ fs) = ⊥
-SameAccepted side (e ∷ es) [] = ⊥
-SameAccepted side (e ∷ es) (f ∷ fs) = (accepted side e ≡ accepted side f) × SameAccepted side es fs
+SameAccepted side es fs = accepted (movesOf side es) ≡ accepted (movesOf side fs)

@@ -1,3 +1,4 @@
+pub mod Queues
 pub mod Account
 pub mod Theorems
 pub mod Worthless

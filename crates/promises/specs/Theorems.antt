@@ -1,10 +1,10 @@
 -- What is proved of the machine: a statement for each promise. The proofs are in proofs/, each under the name that stands beside its statement.
-use Prim.Native.Nat.{ℕ, _/_, _%_, _<_}
+use Prim.Native.Nat.{ℕ, _/_, _%_, _≤_, _<_}
 use mathlib.Core.Path.{_≡_}
 use mathlib.Core.Bool.{true, false, cond, not, _&&_, _||_}
 use mathlib.Core.List.{List, _++_}
 use lib.Dec.{eqb}
-use lib.ListN.{getD}
+use lib.ListN.{length, getD}
 use Rattle.machine.specs.Words.{bit}
 use Rattle.machine.specs.Sides.{Side}
 use Rattle.machine.specs.State.{State, held, resetState}
@@ -91,6 +91,10 @@ KeepsFifoAccount rule =
 
 abbrev pub FifoAccount : Type 0
 FifoAccount = KeepsFifoAccount stepOf
+
+-- `fifo-room`: and no FIFO ever holds more than eight words
+abbrev pub FifoRoom : Type 0
+FifoRoom = (side : Side) (start : ℕ) (memory : List ℕ) (steps : List Step) → length (held side (run resetState start memory steps .state)) ≤ 8
 
 -- `mail-account`: of the thirty-two mailbox bytes, one is full exactly if the latest of its owner's writes, the other side's reads, mailbox clears and resets,
 -- all of them done, was a write
