@@ -21,7 +21,6 @@ use Rattle.laws.proofs.Tests.{neither, any-none, or-left, and-left, and-at}
 use Rattle.laws.proofs.Bits.{bit-zero}
 use Rattle.promises.proofs.Refused.{refused, aborted}
 use Rattle.promises.proofs.First.{before, none-before, first-code}
-use Rattle.promises.proofs.Readings.{kept-bits}
 use Rattle.promises.proofs.Events.{event-rule}
 use Rattle.promises.proofs.Registers.{reset-rule}
 
@@ -70,10 +69,8 @@ module _ (st : State) (start : ℕ) (memory : List ℕ) (s : Step) where
       let also = ap (λ (t : Outcome). bit (t .state .aint) 21) all ∙ bit-zero 21 in
       (rw after (and-false (not (bit (st .intcsr) 20))), rw also)
   by-code true false false p q r =
-      let zero = eqb-true (o .answer .code) 0 p in (
-        rw (event-rule pci 20 (omega arith) (kept-bits 20 (omega arith) .pciFlags) st start memory s zero r) (stays (bit (st .intcsr) 20) _),
-        rw (event-rule addon 21 (omega arith) (kept-bits 21 (omega arith) .addonFlags) st start memory s zero r, and-false) (stays (bit (st .aint) 21) _),
-      )
+      let flags = event-rule st start memory s .0 in
+      (rw (flags pci .abort, q) (stays (bit (st .intcsr) 20) _), rw (flags addon .abort, q, and-false) (stays (bit (st .aint) 21) _))
   by-code false true reset p q r =
       let e = eqb-true (o .answer .code) 13 q in
       let a = aborted st start memory s e .0 in

@@ -1,5 +1,5 @@
 -- The marks that answers tell of, and the events of messages.
-use Prim.Native.Nat.{ℕ, zero, suc, _+_, _/_, _%_, _^_, _<_, _≤_}
+use Prim.Native.Nat.{ℕ, zero, suc, _*_, _/_, _%_, _^_, _<_, _≤_}
 use mathlib.Core.Path.{_≡_, refl, sym, ap, _∙_}
 use mathlib.Core.Bool.{Bool, true, false, cond, not, _&&_, _||_, and-true, and-false, or-false, true≢false, false≢true}
 use mathlib.Core.List.{List, [], _∷_, _++_, map, nil≢cons, head-eq-of-cons-eq, tail-eq-of-cons-eq}
@@ -7,18 +7,16 @@ use native.Mathlib.Omega.{arith}
 use lib.Dec.{eqb, ltb}
 use lib.Bits.{bitXor}
 use lib.ListN.{length}
-use borrow.Author.Tests.{eqb-true, ne-eqb, lt-ltb, ltb-true}
-use Rattle.machine.specs.Words.{bit, anyOf, raised}
+use borrow.Author.Tests.{eqb-true, ne-eqb, ltb-true}
+use Rattle.machine.specs.Words.{bit, anyOf}
 use Rattle.machine.specs.Sides.{Side, pci, addon, host, card}
 use Rattle.machine.specs.State.{State}
 use Rattle.machine.specs.Access.{Access, accessOf, kindOf}
-use Rattle.machine.specs.Commands.{clearsMarks}
 use Rattle.machine.specs.Mailboxes.{changes, marksAfter}
-use Rattle.machine.specs.Cycles.{runsOut}
-use Rattle.machine.specs.Interrupts.{interrupts, chosenOutgoing, chosenIncoming, outgoingEvent, incomingEvent, notified, interruptsAfter, abortBit, interruptsAborted}
+use Rattle.machine.specs.Interrupts.{interrupts, abortBit}
 use Rattle.machine.specs.Code.{codeOf}
 use Rattle.machine.specs.Rights.{settled}
-use Rattle.machine.specs.Step.{Outcome, stepOf, respond, answered, replyOf, stateAfter, movedState, doneState, abortedState}
+use Rattle.machine.specs.Step.{Outcome, stepOf, respond, answered, replyOf, stateAfter, movedState, doneState}
 use Rattle.machine.specs.Event.{Event}
 use Rattle.machine.specs.Run.{run}
 use Rattle.machine.specs.declared.Step.{Step}
@@ -26,11 +24,13 @@ use Rattle.laws.proofs.Tests.{and-left, and-right}
 use Rattle.laws.proofs.KindNumbers.{named}
 use Rattle.laws.proofs.Bits.{bit-raised, bit-low, bit-xor, bit-zero, by-bits, xor-twice}
 use Rattle.laws.proofs.Marks.{fillsByte, takesByte, change-at}
-use Rattle.promises.specs.Account.{ByteEvent, write, read, clear, none, isDone, ownerWrites, otherReads, clearsBytes, touch, Every}
+use Rattle.promises.specs.Account.{write, read, clear, none, isDone, isKind, isAt, ownerWrites, otherReads, clearsBytes, touch, Every}
+use Rattle.promises.specs.Events.{flagOf, enableOf, chosenOf, tellingKind, isReadKind, isMailEvent, ownKind}
 use Rattle.promises.specs.Readings.{ChangedRule}
-use Rattle.promises.specs.Messages.{isReadKind, ChangedWay, flagOf, enableOf, chosenOf, tellingKind, tells, leavesInterrupts, DriverCounts, takesBack, OneMessage}
+use Rattle.promises.specs.Messages.{ChangedWay, tells, leavesInterrupts, DriverCounts, takesBack, OneMessage}
 use Rattle.promises.proofs.MailAccount.{touched, mark-event}
-use Rattle.promises.proofs.Events.{bit-notified, outgoing-read, incoming-read, outgoing-write, incoming-write}
+use Rattle.promises.proofs.Events.{change-read, change-write, chosen-lt, chosen-half, refused-interrupts, event-rule}
+use Rattle.promises.proofs.Registers.{register-rule}
 use Rattle.promises.proofs.Answers.{changed-is}
 
 -- ---- the changed marks of an answer
@@ -187,115 +187,28 @@ one-message side k h st start memory steps before between after e f q a b = one-
 
 -- ---- what a driver counts
 
--- both flags after an access of the other side, by the events: one of which may be none
-notified-flag : (outgoing : Bool) (i c : ℕ) → bit (notified i c) (flagOf outgoing) ≡ (bit i (flagOf outgoing) || cond outgoing (outgoingEvent i c) (incomingEvent i c))
-notified-flag true i c = bit-notified i c 16 ∙ simp (and-true, and-false, or-false)
-notified-flag false i c = bit-notified i c 17 ∙ simp (and-true, and-false, or-false)
+-- the chosen byte's mark, by an access of the kind that tells
+told-change : (side : Side) (outgoing : Bool) (i o e v marks : ℕ)
+    → (let kind = tellingKind side outgoing in let k = chosenOf outgoing i in
+    bit (changes (record { kind = kindOf kind; offset = o; enables = e; value = v }) marks) k
+    ≡ (eqb o (k / 4 * 4) && bit e (k % 4) && cond (isReadKind kind) (bit marks k) (not (bit marks k))))
+told-change pci true i o e v marks = change-read card o e v marks (chosenOf true i) (chosen-lt true i) ∙ rw (chosen-half true i)
+told-change pci false i o e v marks = change-write card o e v marks (chosenOf false i) (chosen-lt false i) ∙ rw (chosen-half false i)
+told-change addon true i o e v marks = change-write host o e v marks (chosenOf true i) (chosen-lt true i) ∙ rw (chosen-half true i)
+told-change addon false i o e v marks = change-read host o e v marks (chosenOf false i) (chosen-lt false i) ∙ rw (chosen-half false i)
 
-quiet : (b on : Bool) → b ≡ (b || on && false)
-quiet b on = sym (simp (and-false, or-false))
+low-kind : (side : Side) (outgoing : Bool) → ltb (tellingKind side outgoing) 4 ≡ true
+low-kind pci true = refl
+low-kind pci false = refl
+low-kind addon true = refl
+low-kind addon false = refl
 
-abbrev madeBy : ℕ → ℕ → ℕ → ℕ → Access
-madeBy n o e v = record { kind = kindOf n; offset = o; enables = e; value = v }
-
--- the register of a side after a done step that neither resets nor writes it: a flag of a half goes up by its own event alone
-abbrev FlagThen : Side → Bool → ℕ → State → Access → Type 0
-FlagThen side outgoing n st x =
-    bit (interruptsAfter side (kindOf n) st x) (flagOf outgoing)
-    ≡ (bit (interrupts side st) (flagOf outgoing)
-    || bit (interrupts side st) (enableOf outgoing) && (eqb n (tellingKind side outgoing) && bit (cond (ltb n 4) (changes x (st .marks)) 0) (chosenOf outgoing (interrupts side st))))
-
--- an access of the other side
-module _ (st : State) (o e v : ℕ) where
-  card-read : (outgoing : Bool) → FlagThen pci outgoing 2 st (madeBy 2 o e v)
-  unfolding interruptsAfter outgoingEvent
-  card-read true = notified-flag true (st .intcsr) _
-  card-read false = notified-flag false (st .intcsr) _ ∙ (λ j. bit (st .intcsr) 17 || incoming-read card (st .intcsr) o e v (st .marks) j)
-
-  card-write : (outgoing : Bool) → FlagThen pci outgoing 3 st (madeBy 3 o e v)
-  unfolding interruptsAfter incomingEvent
-  card-write true = notified-flag true (st .intcsr) _ ∙ (λ j. bit (st .intcsr) 16 || outgoing-write card (st .intcsr) o e v (st .marks) j)
-  card-write false = notified-flag false (st .intcsr) _
-
-  host-write : (outgoing : Bool) → FlagThen addon outgoing 1 st (madeBy 1 o e v)
-  unfolding interruptsAfter outgoingEvent
-  host-write true = notified-flag true (st .aint) _
-  host-write false = notified-flag false (st .aint) _ ∙ (λ j. bit (st .aint) 17 || incoming-write host (st .aint) o e v (st .marks) j)
-
-  host-read : (outgoing : Bool) → FlagThen addon outgoing 0 st (madeBy 0 o e v)
-  unfolding interruptsAfter incomingEvent
-  host-read true = notified-flag true (st .aint) _ ∙ (λ j. bit (st .aint) 16 || outgoing-read host (st .aint) o e v (st .marks) j)
-  host-read false = notified-flag false (st .aint) _
-
--- a step of another kind than those that tell a half
-other-kind : (side : Side) (outgoing : Bool) (n : ℕ) (b : Bool) (i word : ℕ) → (n ≡ tellingKind side outgoing → ⊥)
-    → b ≡ (b || bit i (enableOf outgoing) && (eqb n (tellingKind side outgoing) && bit word (chosenOf outgoing i)))
-other-kind side outgoing n b i word h = rw (ne-eqb n (tellingKind side outgoing) h) (quiet b (bit i (enableOf outgoing)))
-
-elsewhere-raised : (outgoing : Bool) (i : ℕ) (on : Bool) (k : ℕ) → 18 ≤ k → bit (raised i on k) (flagOf outgoing) ≡ bit i (flagOf outgoing)
-elsewhere-raised true i on k h = bit-raised i on k 16 ∙ simp (ne-eqb 16 k (λ q. omega arith), and-false, or-false)
-elsewhere-raised false i on k h = bit-raised i on k 17 ∙ simp (ne-eqb 17 k (λ q. omega arith), and-false, or-false)
-
-not-telling : (side : Side) (outgoing : Bool) (n : ℕ) → 4 ≤ n → n ≡ tellingKind side outgoing → ⊥
-not-telling pci true n h e = omega arith
-not-telling pci false n h e = omega arith
-not-telling addon true n h e = omega arith
-not-telling addon false n h e = omega arith
-
--- the kind of the writes of a side's register
-abbrev ownKind : Side → ℕ
-ownKind pci = 1
-ownKind addon = 3
-
-done-flag : (side : Side) (outgoing : Bool) (n : ℕ) (st : State) (o e v : ℕ) → (eqb n (ownKind side) && eqb o 0x38) ≡ false → FlagThen side outgoing n st (madeBy n o e v)
-unfolding interruptsAfter
-done-flag pci true zero st o e v h = quiet (bit (st .intcsr) 16) (bit (st .intcsr) 4)
-done-flag pci false zero st o e v h = quiet (bit (st .intcsr) 17) (bit (st .intcsr) 12)
-done-flag addon outgoing zero st o e v h = host-read st o e v outgoing
-done-flag pci true (suc zero) st o e v h = rw h (quiet (bit (st .intcsr) 16) (bit (st .intcsr) 4))
-done-flag pci false (suc zero) st o e v h = rw h (quiet (bit (st .intcsr) 17) (bit (st .intcsr) 12))
-done-flag addon outgoing (suc zero) st o e v h = host-write st o e v outgoing
-done-flag pci outgoing (suc (suc zero)) st o e v h = card-read st o e v outgoing
-done-flag addon true (suc (suc zero)) st o e v h = quiet (bit (st .aint) 16) (bit (st .aint) 4)
-done-flag addon false (suc (suc zero)) st o e v h = quiet (bit (st .aint) 17) (bit (st .aint) 12)
-done-flag pci outgoing (suc (suc (suc zero))) st o e v h = card-write st o e v outgoing
-done-flag addon true (suc (suc (suc zero))) st o e v h = rw h (quiet (bit (st .aint) 16) (bit (st .aint) 4))
-done-flag addon false (suc (suc (suc zero))) st o e v h = rw h (quiet (bit (st .aint) 17) (bit (st .aint) 12))
-done-flag side outgoing (suc (suc (suc (suc zero)))) st o e v h =
-    elsewhere-raised outgoing (interrupts side st) _ 18 (omega arith) ∙ other-kind side outgoing 4 _ (interrupts side st) _ (not-telling side outgoing 4 (omega arith))
-done-flag side outgoing (suc (suc (suc (suc (suc zero))))) st o e v h =
-    elsewhere-raised outgoing (interrupts side st) _ 19 (omega arith) ∙ other-kind side outgoing 5 _ (interrupts side st) _ (not-telling side outgoing 5 (omega arith))
-done-flag side outgoing (suc (suc (suc (suc (suc (suc zero)))))) st o e v h = other-kind side outgoing 6 _ (interrupts side st) _ (not-telling side outgoing 6 (omega arith))
-done-flag side outgoing (suc (suc (suc (suc (suc (suc (suc n))))))) st o e v h =
-    other-kind side outgoing _ _ (interrupts side st) _ (not-telling side outgoing _ (omega arith))
-
--- what a half chooses and enables is in the lowest sixteen bits, which it leaves
-raised-low : (i : ℕ) (on : Bool) (k : ℕ) → 16 ≤ k → raised i on k % 2 ^ 16 ≡ i % 2 ^ 16
-raised-low i on k h = by-bits _ _ (λ j. bit-low 16 (raised i on k) j ∙ at j (ltb j 16) refl ∙ sym (bit-low 16 i j))
-  where
-    at : (j : ℕ) (b : Bool) → ltb j 16 ≡ b → (b && bit (raised i on k) j) ≡ (b && bit i j)
-    at j true e = let l = ltb-true j 16 e in bit-raised i on k j ∙ simp (ne-eqb j k (λ q. omega arith), and-false, or-false)
-    at j false e = refl
-
-notified-low : (i c : ℕ) → notified i c % 2 ^ 16 ≡ i % 2 ^ 16
-unfolding notified
-notified-low i c = raised-low _ _ 17 (omega arith) ∙ raised-low i _ 16 (omega arith)
-
-done-low : (side : Side) (n : ℕ) (st : State) (o e v : ℕ) → (eqb n (ownKind side) && eqb o 0x38) ≡ false
-    → interruptsAfter side (kindOf n) st (madeBy n o e v) % 2 ^ 16 ≡ interrupts side st % 2 ^ 16
-unfolding interruptsAfter
-done-low pci zero st o e v h = refl
-done-low addon zero st o e v h = notified-low (st .aint) _
-done-low pci (suc zero) st o e v h = rw h
-done-low addon (suc zero) st o e v h = notified-low (st .aint) _
-done-low pci (suc (suc zero)) st o e v h = notified-low (st .intcsr) _
-done-low addon (suc (suc zero)) st o e v h = refl
-done-low pci (suc (suc (suc zero))) st o e v h = notified-low (st .intcsr) _
-done-low addon (suc (suc (suc zero))) st o e v h = rw h
-done-low side (suc (suc (suc (suc zero)))) st o e v h = raised-low (interrupts side st) _ 18 (omega arith)
-done-low side (suc (suc (suc (suc (suc zero))))) st o e v h = raised-low (interrupts side st) _ 19 (omega arith)
-done-low side (suc (suc (suc (suc (suc (suc zero)))))) st o e v h = refl
-done-low side (suc (suc (suc (suc (suc (suc (suc n))))))) st o e v h = refl
+-- a flag that nothing lowers
+not-lowered : (d r w p q b raises : Bool) → not (d && (r || w)) ≡ true → (b && not (d && (r || w && p && q)) || raises) ≡ (b || raises)
+not-lowered false r w p q b raises e = rw (and-true b)
+not-lowered true true w p q b raises e = absurd (false≢true e)
+not-lowered true false true p q b raises e = absurd (false≢true e)
+not-lowered true false false p q b raises e = rw (and-true b)
 
 -- a step that neither resets nor writes the register
 module _ (side : Side) (st : State) (start : ℕ) (memory : List ℕ) (s : Step) where
@@ -308,63 +221,70 @@ module _ (side : Side) (st : State) (start : ℕ) (memory : List ℕ) (s : Step)
   abbrev i : ℕ
   i = interrupts side st
 
-  free : (d r w : Bool) → not (d && (r || w)) ≡ true → d ≡ true → (r ≡ false) × (w ≡ false)
-  free true true w e f = absurd (false≢true e)
-  free true false true e f = absurd (false≢true e)
-  free true false false e f = (refl, refl)
-  free false r w e f = absurd (false≢true f)
-
   abbrev event : Event
   event = record { step = s; answer = then .answer }
 
-  leaves : leavesInterrupts side event ≡ true → eqb number 0 ≡ true → (eqb (s .kind) 6 ≡ false) × ((eqb (s .kind) (ownKind side) && eqb (s .offset) 0x38) ≡ false)
+  -- what raises a flag is what the answer tells
+  tells-is : (outgoing : Bool) → (isDone event && isMailEvent side outgoing i (st .marks) event) ≡ (bit i (enableOf outgoing) && tells side outgoing (chosenOf outgoing i) event)
   unfolding stepOf respond answered
-  leaves l e = by side l
+  tells-is outgoing =
+      by (eqb number 0) (eqb (s .kind) (tellingKind side outgoing)) refl refl
+      ∙ ap (λ (w : ℕ). bit i (enableOf outgoing) && (eqb (s .kind) (tellingKind side outgoing) && bit w k)) (sym (changed-is st start memory s))
     where
-      by : (of : Side) → leavesInterrupts of event ≡ true → (eqb (s .kind) 6 ≡ false) × ((eqb (s .kind) (ownKind of) && eqb (s .offset) 0x38) ≡ false)
-      by pci l = free (eqb number 0) (eqb (s .kind) 6) _ l e
-      by addon l = free (eqb number 0) (eqb (s .kind) 6) _ l e
+      k : ℕ
+      k = chosenOf outgoing i
 
-  done-interrupts : eqb number 0 ≡ true → eqb (s .kind) 6 ≡ false → interrupts side (then .state) ≡ interruptsAfter side (kindOf (s .kind)) st (accessOf s)
-  unfolding stepOf respond stateAfter movedState settled doneState
-  done-interrupts e r = by side
-    where
-      by : (of : Side) → interrupts of (then .state) ≡ interruptsAfter of (kindOf (s .kind)) st (accessOf s)
-      by pci = rw (eqb-true number 0 e, named (s .kind) .reset, r)
-      by addon = rw (eqb-true number 0 e, named (s .kind) .reset, r)
+      same : Bool
+      same = eqb (s .offset) (k / 4 * 4) && bit (s .enables) (k % 4) && cond (isReadKind (tellingKind side outgoing)) (bit (st .marks) k) (not (bit (st .marks) k))
 
-  refused-interrupts : eqb number 0 ≡ false → interrupts side (then .state) ≡ raised i (eqb number 13) (abortBit side)
-  unfolding stepOf respond stateAfter abortedState interruptsAborted raised
-  refused-interrupts e = rw e (by side (eqb number 13))
-    where
-      by : (of : Side) (b : Bool) → interrupts of (cond b (abortedState st) st) ≡ raised (interrupts of st) b (abortBit of)
-      by pci true = refl
-      by pci false = refl
-      by addon true = refl
-      by addon false = refl
-
-  high-abort : (of : Side) → 18 ≤ abortBit of
-  high-abort pci = omega arith
-  high-abort addon = omega arith
+      by : (d c : Bool) → eqb number 0 ≡ d → eqb (s .kind) (tellingKind side outgoing) ≡ c
+          → (d && (c && (bit i (enableOf outgoing) && same))) ≡ (bit i (enableOf outgoing) && (c && bit (cond (d && ltb (s .kind) 4) (changes (accessOf s) (st .marks)) 0) k))
+      by true true e f =
+          rw (eqb-true (s .kind) (tellingKind side outgoing) f, low-kind side outgoing, told-change side outgoing i (s .offset) (s .enables) (s .value) (st .marks))
+      by true false e f = sym (and-false (bit i (enableOf outgoing)))
+      by false true e f = sym (rw (bit-zero k) (and-false (bit i (enableOf outgoing))))
+      by false false e f = sym (and-false (bit i (enableOf outgoing)))
 
   module _ (l : leavesInterrupts side event ≡ true) where
-    low-step : interrupts side (then .state) % 2 ^ 16 ≡ i % 2 ^ 16
-    low-step = by (eqb number 0) refl
-      where
-        by : (b : Bool) → eqb number 0 ≡ b → interrupts side (then .state) % 2 ^ 16 ≡ i % 2 ^ 16
-        by true e = let f = leaves l e in rw (done-interrupts e (f .0)) (done-low side (s .kind) st (s .offset) (s .enables) (s .value) (f .1))
-        by false e = let p = high-abort side in rw (refused-interrupts e) (raised-low i (eqb number 13) (abortBit side) (omega arith))
-
     flag-step : (outgoing : Bool) → bit (interrupts side (then .state)) (flagOf outgoing) ≡ (bit i (flagOf outgoing) || bit i (enableOf outgoing) && tells side outgoing (chosenOf outgoing i) event)
     flag-step outgoing =
-        by (eqb number 0) refl
-        ∙ sym (ap (λ w. bit i (flagOf outgoing) || bit i (enableOf outgoing) && (eqb (s .kind) (tellingKind side outgoing) && bit w (chosenOf outgoing i))) (changed-is st start memory s))
+        event-rule st start memory s .0 side .mail outgoing
+        ∙ not-lowered (isDone event) (isKind 6 event) (isAt (ownKind side) 0x38 event) (bit (s .enables) 2) (bit (s .value) (flagOf outgoing)) (bit i (flagOf outgoing)) _ l
+        ∙ ap (λ (b : Bool). bit i (flagOf outgoing) || b) (tells-is outgoing)
+
+    -- what a half chooses and enables is in the lowest sixteen bits, which it leaves
+    free : (d r w : Bool) → not (d && (r || w)) ≡ true → d ≡ true → (r ≡ false) × (w ≡ false)
+    free true true w e f = absurd (false≢true e)
+    free true false true e f = absurd (false≢true e)
+    free true false false e f = (refl, refl)
+    free false r w e f = absurd (false≢true f)
+
+    high-abort : (of : Side) → 16 ≤ abortBit of
+    high-abort pci = omega arith
+    high-abort addon = omega arith
+
+    low-bit : (j : ℕ) → j < 16 → bit (interrupts side (then .state)) j ≡ bit i j
+    unfolding stepOf respond answered
+    low-bit j h = by (eqb number 0) refl
       where
-        by : (b : Bool) → eqb number 0 ≡ b
-            → bit (interrupts side (then .state)) (flagOf outgoing)
-            ≡ (bit i (flagOf outgoing) || bit i (enableOf outgoing) && (eqb (s .kind) (tellingKind side outgoing) && bit (cond (b && ltb (s .kind) 4) (changes (accessOf s) (st .marks)) 0) (chosenOf outgoing i)))
-        by true e = let f = leaves l e in rw (done-interrupts e (f .0)) (done-flag side outgoing (s .kind) st (s .offset) (s .enables) (s .value) (f .1))
-        by false e = rw (refused-interrupts e) (elsewhere-raised outgoing i (eqb number 13) (abortBit side) (high-abort side) ∙ simp (bit-zero, and-false, or-false))
+        written : (of : Side) → number ≡ 0 → eqb (s .kind) 6 ≡ false → (eqb (s .kind) (ownKind of) && eqb (s .offset) 0x38) ≡ false
+            → bit (interrupts of (then .state)) j ≡ bit (interrupts of st) j
+        written pci e r w = register-rule st start memory s e r .intcsr j h ∙ rw w
+        written addon e r w = register-rule st start memory s e r .aint j h ∙ rw w
+
+        by : (d : Bool) → eqb number 0 ≡ d → bit (interrupts side (then .state)) j ≡ bit i j
+        by true e = let f = free (eqb number 0) (eqb (s .kind) 6) _ l e in written side (eqb-true number 0 e) (f .0) (f .1)
+        by false e =
+            let high = high-abort side in
+            ap (λ (w : ℕ). bit w j) (refused-interrupts st start memory s side e)
+            ∙ bit-raised i (eqb number 13) (abortBit side) j ∙ simp (ne-eqb j (abortBit side) (λ q. omega arith), and-false, or-false)
+
+    low-step : interrupts side (then .state) % 2 ^ 16 ≡ i % 2 ^ 16
+    low-step = by-bits _ _ (λ j. bit-low 16 (interrupts side (then .state)) j ∙ at j (ltb j 16) refl ∙ sym (bit-low 16 i j))
+      where
+        at : (j : ℕ) (b : Bool) → ltb j 16 ≡ b → (b && bit (interrupts side (then .state)) j) ≡ (b && bit i j)
+        at j true e = low-bit j (ltb-true j 16 e)
+        at j false e = refl
 
 low-kept : (side : Side) (start : ℕ) (steps : List Step) (st : State) (memory : List ℕ)
     → (let r = run st start memory steps in Every (λ (g : Event). leavesInterrupts side g ≡ true) (r .events) → interrupts side (r .state) % 2 ^ 16 ≡ interrupts side st % 2 ^ 16)

@@ -16,7 +16,7 @@ use Rattle.machine.specs.Commands.{clearsFifo}
 use Rattle.machine.specs.Fifos.{amount, followed, letIn, handedOut, fifoAfter}
 use Rattle.machine.specs.Mcsr.{mcsrKept, enableBit, fourBit, mcsrAfter}
 use Rattle.machine.specs.Cycles.{countKept, countLeft, countAfter, earns, rightAfter, laneAfter}
-use Rattle.machine.specs.Interrupts.{flags, interruptsAfter, abortIn}
+use Rattle.machine.specs.Interrupts.{interruptsAfter, abortIn}
 use Rattle.machine.specs.Rights.{ends, ended, settled}
 use Rattle.machine.specs.Code.{codeOf, tests, testOf, faults, laneFaults, isOutOfForm, isAbortStanding}
 use Rattle.machine.specs.Step.{movedState, doneState, abortedState, stateAfter, replyOf, answered, respond, stepOf}
@@ -161,14 +161,6 @@ no-abort-before side st start words x e h = by (lane side st .right) refl
     by false r =
         and-at (cycles side (x .kind)) _ (and-left (cycles side (x .kind)) _ (and-left _ _ (rw r at h))) (neither (λ of. cycles of (x .kind) && abortIn (st .intcsr)) (none 11) side)
 
-master-flag : bit (flags pci) 20 ≡ true
-unfolding bit
-master-flag = refl
-
-target-flag : bit (flags pci) 21 ≡ true
-unfolding bit
-target-flag = refl
-
 module _ (st : State) (start : ℕ) (memory : List ℕ) (s : Step) (e : codeOf st start (length memory) (accessOf s) ≡ 0) (no : eqb (s .kind) 6 ≡ false) where
   intcsr-done : stepOf st start memory s .state .intcsr ≡ interruptsAfter pci (accessOf s .kind) st (accessOf s)
   unfolding stepOf respond stateAfter movedState settled doneState
@@ -180,8 +172,9 @@ module _ (st : State) (start : ℕ) (memory : List ℕ) (s : Step) (e : codeOf s
 
   pub no-abort-after : abortIn (st .intcsr) ≡ false → abortIn (interruptsAfter pci (accessOf s .kind) st (accessOf s)) ≡ false
   no-abort-after h =
-      let master = rw (or-left (bit (st .intcsr) 20) (bit (st .intcsr) 21) h) at (event-rule pci 20 (omega arith) master-flag st start memory s code-done no) in
-      let target = rw (or-right (bit (st .intcsr) 20) (bit (st .intcsr) 21) h) at (event-rule pci 21 (omega arith) target-flag st start memory s code-done no) in
+      let flags = event-rule st start memory s in
+      let master = rw (or-left (bit (st .intcsr) 20) (bit (st .intcsr) 21) h, code-done) at (flags .0 pci .abort) in
+      let target = rw (or-right (bit (st .intcsr) 20) (bit (st .intcsr) 21) h) at (flags .1) in
       let both : abortIn (stepOf st start memory s .state .intcsr) ≡ false = λ i. master i || target i in
       rw intcsr-done at both
 

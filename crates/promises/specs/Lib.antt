@@ -3,6 +3,7 @@ pub mod Account
 pub mod Theorems
 pub mod Worthless
 pub mod Readings
+pub mod Events
 pub mod CodeTable
 pub mod Messages
 pub mod Rights

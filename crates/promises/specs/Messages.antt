@@ -1,44 +1,26 @@
 -- Ask 2, one message, one event: what a driver, or a card, that counts mailbox interrupts can rely on. Steps and answers are told by their numbers alone.
-use Prim.Native.Nat.{ℕ, _+_, _/_, _%_, _^_, _<_}
+use Prim.Native.Nat.{ℕ, _<_}
 use mathlib.Core.Path.{_≡_}
 use mathlib.Core.Bool.{Bool, true, cond, not, _&&_, _||_}
 use mathlib.Core.List.{List, _∷_, _++_, map}
-use lib.Dec.{eqb, ltb}
+use lib.Dec.{ltb}
 use Rattle.machine.specs.Words.{bit, anyOf}
-use Rattle.machine.specs.Sides.{Side, pci, addon}
+use Rattle.machine.specs.Sides.{Side}
 use Rattle.machine.specs.State.{State}
 use Rattle.machine.specs.Interrupts.{interrupts}
 use Rattle.machine.specs.Step.{stepOf}
 use Rattle.machine.specs.Event.{Event}
 use Rattle.machine.specs.Run.{run}
+use Rattle.promises.specs.Events.{flagOf, enableOf, chosenOf, tellingKind, isReadKind, ownKind}
 use Rattle.promises.specs.Account.{isDone, isKind, isAt, ownerWrites, otherReads, clearsBytes, Every}
 use Rattle.machine.specs.declared.Step.{Step}
 
 -- `changed-way`: the mark that an answer shows as changed was full before a read and is empty after it, and the other way round with a write
-abbrev pub isReadKind : ℕ → Bool
-isReadKind kind = eqb kind 0 || eqb kind 2
-
 abbrev pub ChangedWay : Type 0
 ChangedWay =
     (k : ℕ) → k < 32 → (st : State) (start : ℕ) (memory : List ℕ) (s : Step)
     → (let o = stepOf st start memory s in
     bit (o .answer .changed) k ≡ true → (bit (st .marks) k ≡ isReadKind (s .kind)) × (bit (o .state .marks) k ≡ not (isReadKind (s .kind))))
-
--- Of the outgoing half, and else of the incoming one: the flag in INTCSR and AINT, its enable, and the status bit of the byte that the register chooses.
-abbrev pub flagOf : Bool → ℕ
-flagOf outgoing = cond outgoing 16 17
-
-abbrev pub enableOf : Bool → ℕ
-enableOf outgoing = cond outgoing 4 12
-
-abbrev pub chosenOf : Bool → ℕ → ℕ
-chosenOf outgoing i = cond outgoing (i % 16) (16 + i / 2 ^ 8 % 16)
-
--- the kind of the accesses that are a side's events: the driver hears of the Add-On's reads of outgoing bytes (2) and writes of incoming ones (3), the card of
--- PCI's writes of outgoing bytes (1) and reads of incoming ones (0)
-abbrev pub tellingKind : Side → Bool → ℕ
-tellingKind pci outgoing = cond outgoing 2 3
-tellingKind addon outgoing = cond outgoing 1 0
 
 -- an answer tells a side that byte k changed
 abbrev pub tells : Side → Bool → ℕ → Event → Bool
@@ -46,8 +28,7 @@ tells side outgoing k e = isKind (tellingKind side outgoing) e && bit (e .answer
 
 -- no done write of a side's interrupt register, and no done reset
 abbrev pub leavesInterrupts : Side → Event → Bool
-leavesInterrupts pci e = not (isDone e && (isKind 6 e || isAt 1 0x38 e))
-leavesInterrupts addon e = not (isDone e && (isKind 6 e || isAt 3 0x38 e))
+leavesInterrupts side e = not (isDone e && (isKind 6 e || isAt (ownKind side) 0x38 e))
 
 -- `driver-counts`: of INTCSR and of AINT, as long as it is not written, a step sets the flag exactly if the enable was set then, and the step's answer tells
 -- of the byte that was chosen then

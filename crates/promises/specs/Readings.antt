@@ -9,7 +9,6 @@ use lib.ListN.{length, getD, set}
 use Rattle.machine.specs.Words.{bit, anyOf, shown, merged, written}
 use Rattle.machine.specs.Sides.{Side, pci, addon}
 use Rattle.machine.specs.State.{State, resetState}
-use Rattle.machine.specs.Access.{Access, Kind, accessOf, isRead, isWrite, cycles}
 use Rattle.machine.specs.Offsets.{inTable, isReadOnly}
 use Rattle.machine.specs.Fifos.{front}
 use Rattle.machine.specs.Window.{placeOf}
@@ -234,48 +233,6 @@ abbrev pub RegisterRule : Type 0
 RegisterRule =
     (st : State) (start : ℕ) (memory : List ℕ) (s : Step)
     → (let o = stepOf st start memory s in o .answer .code ≡ 0 → eqb (s .kind) 6 ≡ false → RegistersThen s st (o .state))
-
--- a side writes a one to bit k of its interrupt register, its byte enabled
-abbrev pub acknowledges : Side → ℕ → Access → Bool
-acknowledges side k x = isWrite side (x .kind) && eqb (x .offset) 0x38 && bit (x .enables) (k / 8) && bit (x .value) k
-
--- The accesses of the other side that can be events: of outgoing bytes and of incoming ones. The Add-On reads the former and writes the latter, PCI the
--- other way round.
-abbrev pub touchesOutgoing : Side → Kind → Bool
-touchesOutgoing pci k = isRead addon k
-touchesOutgoing addon k = isWrite pci k
-
-abbrev pub touchesIncoming : Side → Kind → Bool
-touchesIncoming pci k = isWrite addon k
-touchesIncoming addon k = isRead pci k
-
--- a mark that the access changes: full before a read, empty before a write
-abbrev pub changesMark : Kind → Bool → Bool
-changesMark k mark = cond (isRead pci k || isRead addon k) mark (not mark)
-
--- What sets bit k of a side's interrupt register. 16: the other side touches, of the outgoing mailbox that bits 3:2 choose, the byte that 1:0 choose,
--- whose mark changes, while bit 4 is set. 17: it touches, of the incoming mailbox that bits 11:10 choose, the byte that 9:8 choose, whose mark changes,
--- while bit 12 is set. 18 and 19: a write or a read cycle whose count is at most 4.
-abbrev pub setsBit : Side → ℕ → State → Access → Bool
-setsBit side k st x =
-    let i = interrupts side st in
-    eqb k 16
-    && (touchesOutgoing side (x .kind)
-    && (bit i 4 && (eqb (x .offset) (i / 2 ^ 2 % 4 * 4) && bit (x .enables) (i % 4) && changesMark (x .kind) (bit (st .marks) (i % 16)))))
-    || eqb k 17
-    && (touchesIncoming side (x .kind)
-    && (bit i 12 && (eqb (x .offset) (0x10 + i / 2 ^ 10 % 4 * 4) && bit (x .enables) (i / 2 ^ 8 % 4) && changesMark (x .kind) (bit (st .marks) (16 + i / 2 ^ 8 % 16)))))
-    || eqb k 18 && (cycles addon (x .kind) && leb (st .fromAddon .count) 4)
-    || eqb k 19 && (cycles pci (x .kind) && leb (st .fromPci .count) 4)
-
--- `event-rule`: one rule for INTCSR and AINT: after a done step that is no reset, each of its flags is set if something sets it, or it was and its side does
--- not acknowledge it
-abbrev pub EventRule : Type 0
-EventRule =
-    (side : Side) (k : ℕ) → k < 32 → bit (flags side) k ≡ true → (st : State) (start : ℕ) (memory : List ℕ) (s : Step)
-    → (let o = stepOf st start memory s in let x = accessOf s in
-    o .answer .code ≡ 0 → eqb (s .kind) 6 ≡ false
-    → bit (interrupts side (o .state)) k ≡ (bit (interrupts side st) k && not (acknowledges side k x) || setsBit side k st x))
 
 -- ---- of an answer
 
