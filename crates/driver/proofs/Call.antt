@@ -15,7 +15,9 @@ use Rattle.machine.specs.declared.Step.{Step}
 use Rattle.machine.specs.declared.Answer.{Answer}
 use Rattle.laws.proofs.Refused.{refused}
 use Rattle.promises.specs.Theorems.{AbortOnly}
-use Rattle.promises.proofs.CodeTable.{at-most-13}
+use Rattle.promises.specs.Readings.{isOneOf}
+use Rattle.promises.specs.CodeTable.{stepCodes}
+use Rattle.promises.proofs.CodeTable.{numbered}
 use Rattle.promises.proofs.Refused.{aborted}
 use Rattle.bank.specs.Words.{oneIf, stateOfWords, isController}
 use Rattle.bank.proofs.Words.{zeros-are-reset}
@@ -69,14 +71,14 @@ step-call-unique words start memory s answer = unique-by words start memory s an
 -- ---- in numbers
 
 module _ (words : List ℕ) (start : ℕ) (memory : List ℕ) (s : Step) where
-  code-by : (one : Bool) → cond one (stepOf (stateOfWords words) start memory s) (noController words memory) .answer .code ≤ 13
+  code-by : (one : Bool) → isOneOf stepCodes (cond one (stepOf (stateOfWords words) start memory s) (noController words memory) .answer .code) ≡ true
   unfolding answered
-  code-by true = at-most-13 (stateOfWords words) start memory s
-  code-by false = omega arith
+  code-by true = numbered (stateOfWords words) start memory s
+  code-by false = refl
 
-  pub code-most : stepOfWords words start memory s .answer .code ≤ 13
+  pub step-code : isOneOf stepCodes (stepOfWords words start memory s .answer .code) ≡ true
   unfolding stepOfWords
-  code-most = code-by (isController words)
+  step-code = code-by (isController words)
 
   memory-by : (one : Bool)
       → (let o = cond one (stepOf (stateOfWords words) start memory s) (noController words memory) in
@@ -140,7 +142,7 @@ step-call-rule words start memory s answer r words′ memory′ answer′ p =
     let o = stepOfWords words start memory s in
     record {
       unasked = p .unasked;
-      coded = λ asked. (o .answer .code, (p .told asked .result, (code-most words start memory s, (rest-of (o .answer), (p .told asked .answer, refl)))));
+      coded = λ asked. (o .answer .code, (p .told asked .result, (step-code words start memory s, (rest-of (o .answer), (p .told asked .answer, refl)))));
       none = λ asked h. (p .told asked .result ∙ ap pos (none-told words start memory s h .0), p .told asked .answer ∙ none-told words start memory s h .1);
       refused = stays-by words start memory s answer (eqb (length answer) 7) refl r words′ memory′ answer′ p;
       aborted = aborts-by words start memory s answer (eqb (length answer) 7) refl r words′ memory′ answer′ p;

@@ -1,5 +1,5 @@
 -- The C call for one step, on a controller that stands as words in the caller's memory: what it returns and leaves.
-use Prim.Native.Nat.{ℕ, _≤_}
+use Prim.Native.Nat.{ℕ}
 use mathlib.Core.Path.{_≡_}
 use mathlib.Core.Bool.{true, false, cond}
 use mathlib.Core.List.{List, [], _∷_, map}
@@ -14,6 +14,8 @@ use Rattle.machine.specs.Run.{RunOutcome, run}
 use Rattle.machine.specs.declared.Step.{Step}
 use Rattle.machine.specs.declared.Answer.{Answer}
 use Rattle.promises.specs.Theorems.{AbortOnly}
+use Rattle.promises.specs.Readings.{isOneOf}
+use Rattle.promises.specs.CodeTable.{stepCodes}
 use Rattle.bank.specs.Words.{oneIf, controllerWords, stateOfWords, isController}
 use Rattle.refusal.specs.Codes.{formCode}
 use Rattle.step.specs.Parts.{outcomeIn}
@@ -77,8 +79,8 @@ StepCallUnique =
 pub record StepByNumbers (words : List ℕ) (start : ℕ) (memory : List ℕ) (answer : List ℕ) (r : ℤ) (words′ memory′ answer′ : List ℕ) : Type 0 where
   -- an answer of other than 7 words: -1, and not a word is touched
   pub unasked : (length answer ≡ 7 → ⊥) → (r ≡ negsuc 0) × ((words′ ≡ words) × ((memory′ ≡ memory) × (answer′ ≡ answer)))
-  -- else a code from 0 to 13, which is the answer's first word too
-  pub coded : length answer ≡ 7 → (code : ℕ) × ((r ≡ pos code) × ((code ≤ 13) × ((rest : List ℕ) × ((answer′ ≡ code ∷ rest) × (length rest ≡ 6)))))
+  -- else a code of a step, which is the answer's first word too
+  pub coded : length answer ≡ 7 → (code : ℕ) × ((r ≡ pos code) × ((isOneOf stepCodes code ≡ true) × ((rest : List ℕ) × ((answer′ ≡ code ∷ rest) × (length rest ≡ 6)))))
   -- words that stand for no controller: 1, and nothing else is answered
   pub none : length answer ≡ 7 → isController words ≡ false → (r ≡ pos 1) × (answer′ ≡ 1 ∷ 0 ∷ 0 ∷ 0 ∷ 0 ∷ 0 ∷ 0 ∷ [])
   -- any number but 0 and 13: every word of the controller and of the memory is as it was

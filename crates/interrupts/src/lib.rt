@@ -10,10 +10,13 @@ use controller::ByteCount;
 use machine::Step;
 use machine::offsets;
 
-// The bits that both keep (4 to 0, 12 to 8, 15 and 14), and the flags: of INTCSR 21 to 16, of AINT 19 to 16 and 21.
-pub const KEPT: u32 = 0x0000_DF1F;
+// The bits that INTCSR keeps, 4 to 0, 12 to 8, 15 and 14, and its flags, 21 to 16.
+pub const INTCSR_KEPT: u32 = 0x0000_DF1F;
 
 pub const INTCSR_FLAGS: u32 = 0x003F_0000;
+
+// Those of AINT: the same are kept, and the flags are 19 to 16 and 21.
+pub const AINT_KEPT: u32 = 0x0000_DF1F;
 
 pub const AINT_FLAGS: u32 = 0x002F_0000;
 
@@ -82,7 +85,7 @@ pub fn intcsr_written(i: u32, s: Step) -> u32
     ensures { λ r. ⌜ r ≡ cond (eqb (s .offset) 0x38) (interruptsWritten sides.pci i (s .value) (s .enables)) i ⌝ }
 {
     if s.offset == offsets::INTERRUPTS {
-        return word::written(KEPT, i, s.value, s.enables)
+        return word::written(INTCSR_KEPT, i, s.value, s.enables)
             | word::cleared(i & INTCSR_FLAGS, word::shown(s.value, s.enables));
     }
     i
@@ -93,7 +96,7 @@ pub fn aint_written(i: u32, s: Step) -> u32
     ensures { λ r. ⌜ r ≡ cond (eqb (s .offset) 0x38) (interruptsWritten sides.addon i (s .value) (s .enables)) i ⌝ }
 {
     if s.offset == offsets::INTERRUPTS {
-        return word::written(KEPT, i, s.value, s.enables)
+        return word::written(AINT_KEPT, i, s.value, s.enables)
             | word::cleared(i & AINT_FLAGS, word::shown(s.value, s.enables));
     }
     i

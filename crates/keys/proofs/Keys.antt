@@ -1,12 +1,13 @@
 -- Every answer to a text is given, and the digits of a log line are the answer as the log shows it.
-use Prim.Native.Nat.{ℕ}
+use Prim.Native.Nat.{ℕ, _^_}
 use mathlib.Core.Path.{_≡_, refl}
 use mathlib.Core.List.{List, [], _∷_}
 use native.Mathlib.Omega.{arith}
 use Rattle.machine.specs.State.{State}
 use Rattle.machine.specs.Step.{stepOf}
 use Rattle.machine.specs.declared.Answer.{Answer}
-use Rattle.promises.specs.Fits.{WordsFit, StateFits, AnswerFits, Given, toStep, toNoFrame}
+use Rattle.promises.specs.Fits.{WordsFit, StateFits, answerCodes, AnswerFits, Given, toStep, toNoFrame}
+use Rattle.promises.proofs.Answers.{in-list}
 use Rattle.promises.proofs.Fits.{fit-kept, given-fits}
 use Rattle.lines.specs.Lines.{lines}
 use Rattle.frame.specs.Frame.{frameOf, framedOutcome}
@@ -18,7 +19,7 @@ use Rattle.log.specs.Log.{lineOutcome, linesOutcome}
 use Rattle.keys.specs.Keys.{NumbersAreKey, AllGiven, TextGiven}
 
 in-digits : (a : Answer) → AnswerFits a → InDigits a
-in-digits a f = record { code = let c = f .code in omega arith; address = f .address; value = f .value; enables = f .enables }
+in-digits a f = record { code = in-list (16 ^ 2) answerCodes (a .code) refl (f .code); address = f .address; value = f .value; enables = f .enables }
 
 pub numbers-are-key : NumbersAreKey
 numbers-are-key set other a b g h e = digits-are-key set other a b (in-digits a (given-fits a g)) (in-digits b (given-fits b h)) e

@@ -6,7 +6,7 @@ use native.Mathlib.Omega.{arith}
 use lib.ListN.{length}
 use borrow.Author.Tests.{ltb-true, leb-true, leb-false, not-false}
 use Rattle.machine.specs.Words.{bit}
-use Rattle.machine.specs.Sides.{Side, pci, addon, other}
+use Rattle.machine.specs.Sides.{Side, pci, addon, other, partyOf}
 use Rattle.machine.specs.State.{State, lane, held}
 use Rattle.machine.specs.Access.{Access, cycles, reads, writes}
 use Rattle.machine.specs.Offsets.{fifoPort}
@@ -17,10 +17,10 @@ use Rattle.machine.specs.Code.{codeOf, tests, isPortStuck, isFullOrEmpty, isNot
 use Rattle.laws.proofs.Tests.{none-applies, neither, or-left, and-at}
 
 -- code 8: a port write finds room
-pub room-to-write : (side : Side) (st : State) (x : Access) → isFullOrEmpty st x ≡ false → writes side fifoPort x ≡ true → length (held side st) < 8
+pub room-to-write : (side : Side) (st : State) (x : Access) → isFullOrEmpty st x ≡ false → writes (partyOf side) fifoPort x ≡ true → length (held side st) < 8
 unfolding isFullOrEmpty
 room-to-write side st x e w =
-    leb-false 8 _ (and-at (writes side fifoPort x) _ w (or-left _ (reads (other side) fifoPort x && isEmpty (held side st)) (neither (λ s. isPortStuck s st x) e side)))
+    leb-false 8 _ (and-at (writes (partyOf side) fifoPort x) _ w (or-left _ (reads (partyOf (other side)) fifoPort x && isEmpty (held side st)) (neither (λ s. isPortStuck s st x) e side)))
 
 -- code 12: a read cycle finds room
 at-least-one : (four : Bool) → 1 ≤ cond four 4 1

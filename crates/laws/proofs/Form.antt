@@ -9,8 +9,8 @@ use lib.Bits.{bitAnd, and-high, and-le-r}
 use lib.ListN.{length, drop, length-append, length-drop}
 use borrow.Author.Tests.{ltb-false, le-ltb, eqb-true, eq-eqb, not-false}
 use Rattle.machine.specs.Words.{bit, anyOf, only, raised, cleared, merged, written}
-use Rattle.machine.specs.Sides.{Side, pci, addon, other, sameSide, sideOf}
-use Rattle.machine.specs.State.{State, Lane, lane, held, resetState}
+use Rattle.machine.specs.Sides.{Side, pci, addon, other, sameSide, sideOf, host, partyOf, sameParty}
+use Rattle.machine.specs.State.{State, Lane, lane, held, withRight, resetState}
 use Rattle.machine.specs.Access.{Access, accessOf, Kind, reading, writing, cycle, chipReset, unknown, isReset, cycles, writes}
 use Rattle.machine.specs.Offsets.{fifoPort, addressAt, countAt, interruptsAt, controlAt}
 use Rattle.machine.specs.Commands.{clearsFifo}
@@ -19,7 +19,7 @@ use Rattle.machine.specs.Mailboxes.{changes}
 use Rattle.machine.specs.Mcsr.{mcsrKept, mcsrAfter}
 use Rattle.machine.specs.Cycles.{addressKept, countKept, nextAddress, countLeft, runsOut, addressAfter, countAfter, laneAfter}
 use Rattle.machine.specs.Interrupts.{interrupts, interruptsKept, flags, interruptsHeld, interruptsWritten, outgoingEvent, incomingEvent, notified, countBit, interruptsAfter, interruptsAborted}
-use Rattle.machine.specs.Rights.{ended, settledLane, settled, rightless}
+use Rattle.machine.specs.Rights.{ended, settledLane, settled}
 use Rattle.machine.specs.Code.{codeOf, tests, faults, laneFaults, isOutOfForm, isFullOrEmpty, isNotReady}
 use Rattle.machine.specs.Step.{movedState, doneState, abortedState, stateAfter, stepOf, respond, replyOf}
 use Rattle.machine.specs.declared.Step.{Step}
@@ -40,7 +40,7 @@ fifo-form : (side : Side) (st : State) (x : Access) (word : ℕ) → isFullOrEmp
     → ltb 8 (length (fifoAfter side x word (held side st))) ≡ false
 fifo-form side st x word e f h =
     le-ltb 8 _
-    (fits (clearsFifo side x) (cycleFeeds side x) (writes side fifoPort x) (handedOut side x word) (held side st) word (x .value) (ltb-false 8 _ h)
+    (fits (clearsFifo side x) (cycleFeeds side x) (writes (partyOf side) fifoPort x) (handedOut side x word) (held side st) word (x .value) (ltb-false 8 _ h)
     (room-to-read side st x f) (room-to-write side st x e))
 
 -- ---- addresses are multiples of 4, counts at most 03FFFFFF
@@ -86,12 +86,12 @@ lane-form side st x word m n e f h =
     λ i.
     anyOf
     (fifo-form side st x word e f (was 0) i
-    ∷ address-form (writes pci (addressAt side) x) (cycles side (x .kind)) (l .address) (x .value) (x .enables) (was 1) i
-    ∷ count-form (writes pci (countAt side) x) (cycles side (x .kind)) (l .count) (x .value) (x .enables) (was 2) i
+    ∷ address-form (writes host (addressAt side) x) (cycles side (x .kind)) (l .address) (x .value) (x .enables) (was 1) i
+    ∷ count-form (writes host (countAt side) x) (cycles side (x .kind)) (l .count) (x .value) (x .enables) (was 2) i
     ∷ right-form (next .right) (ended side next m n) i
     ∷ [])
 
-aborted-lane : (side : Side) (l : Lane) (m i n : ℕ) → anyOf (laneFaults side l m i) ≡ false → anyOf (laneFaults side (rightless l) m n) ≡ false
+aborted-lane : (side : Side) (l : Lane) (m i n : ℕ) → anyOf (laneFaults side l m i) ≡ false → anyOf (laneFaults side (withRight false l) m n) ≡ false
 aborted-lane side l m j n h =
     let was = any-none (laneFaults side l m j) h in
     λ i. anyOf (was 0 i ∷ was 1 i ∷ was 2 i ∷ false ∷ [])
@@ -101,10 +101,10 @@ aborted-lane side l m j n h =
 interrupts-written : (side : Side) (old new e : ℕ) → Only (interruptsHeld side) (interruptsWritten side old new e)
 unfolding interruptsWritten written cleared
 interrupts-written pci old new e =
-    only-or (interruptsHeld pci) _ _ (only-and (interruptsHeld pci) (merged old new e) interruptsKept refl)
+    only-or (interruptsHeld pci) _ _ (only-and (interruptsHeld pci) (merged old new e) (interruptsKept pci) refl)
     (only-and-left (interruptsHeld pci) (bitAnd old (flags pci)) _ (only-and (interruptsHeld pci) old (flags pci) refl))
 interrupts-written addon old new e =
-    only-or (interruptsHeld addon) _ _ (only-and (interruptsHeld addon) (merged old new e) interruptsKept refl)
+    only-or (interruptsHeld addon) _ _ (only-and (interruptsHeld addon) (merged old new e) (interruptsKept addon) refl)
     (only-and-left (interruptsHeld addon) (bitAnd old (flags addon)) _ (only-and (interruptsHeld addon) old (flags addon) refl))
 
 if-so : (y : ℕ) (b : Bool) (a c : ℕ) → Only y a → Only y c → Only y (cond b a c)
@@ -127,7 +127,7 @@ unfolding interruptsAfter
 interrupts-only side (reading by) st x h = if-so (interruptsHeld side) (sameSide side (sideOf by)) _ _ h (notified-only side (interrupts side st) (changes x (st .marks)) h)
 interrupts-only side (writing by) st x h =
     if-so (interruptsHeld side) (sameSide side (sideOf by)) _ _
-    (if-so (interruptsHeld side) (eqb (x .offset) interruptsAt) _ _ (interrupts-written side (interrupts side st) (x .value) (x .enables)) h)
+    (if-so (interruptsHeld side) (sameParty (partyOf side) by && eqb (x .offset) interruptsAt) _ _ (interrupts-written side (interrupts side st) (x .value) (x .enables)) h)
     (notified-only side (interrupts side st) (changes x (st .marks)) h)
 interrupts-only side (cycle of) st x h = count-raised side of (interrupts side st) (runsOut (lane of st .count)) h
 interrupts-only side chipReset st x h = h
@@ -135,7 +135,7 @@ interrupts-only side unknown st x h = h
 
 mcsr-only : (st : State) (x : Access) → Only mcsrKept (st .mcsr) → Only mcsrKept (mcsrAfter x (st .mcsr))
 unfolding mcsrAfter written
-mcsr-only st x h = if-so mcsrKept (writes pci controlAt x) _ (st .mcsr) (only-and mcsrKept (merged (st .mcsr) (x .value) (x .enables)) mcsrKept refl) h
+mcsr-only st x h = if-so mcsrKept (writes host controlAt x) _ (st .mcsr) (only-and mcsrKept (merged (st .mcsr) (x .value) (x .enables)) mcsrKept refl) h
 
 held-form : (y p q : ℕ) → not (only y p) ≡ false → (Only y p → Only y q) → not (only y q) ≡ false
 held-form y p q h f = ap not (only-is y q (f (is-only y p (not-false (only y p) h))))

@@ -2,7 +2,7 @@
 use Prim.Native.Nat.{ℕ, zero, suc}
 use mathlib.Core.Bool.{Bool, true, false, _&&_}
 use lib.Dec.{eqb}
-use Rattle.machine.specs.Sides.{Side, pci, addon, sameSide, Party, host, card, partyOf, sameParty}
+use Rattle.machine.specs.Sides.{Side, pci, addon, sameSide, Party, host, card, sideOf, sameParty}
 use Rattle.machine.specs.declared.Step.{Step}
 
 -- A cycle is named by the lane that it works on. Of a cycle or a reset only the kind counts: no rule of theirs looks at the other three numbers.
@@ -46,13 +46,28 @@ isWriteBy party (cycle side) = false
 isWriteBy party chipReset = false
 isWriteBy party unknown = false
 
--- a read or a write, by either party
+-- a read or a write, by any party
 abbrev pub isAccess : Kind → Bool
 isAccess (reading by) = true
 isAccess (writing by) = true
 isAccess (cycle side) = false
 isAccess chipReset = false
 isAccess unknown = false
+
+-- a read or a write on a side's bus, by whichever party; a write of these
+abbrev pub isOn : Side → Kind → Bool
+isOn side (reading by) = sameSide side (sideOf by)
+isOn side (writing by) = sameSide side (sideOf by)
+isOn side (cycle of) = false
+isOn side chipReset = false
+isOn side unknown = false
+
+abbrev pub isWriteOn : Side → Kind → Bool
+isWriteOn side (reading by) = false
+isWriteOn side (writing by) = sameSide side (sideOf by)
+isWriteOn side (cycle of) = false
+isWriteOn side chipReset = false
+isWriteOn side unknown = false
 
 -- the cycle that works on a side's lane: a write cycle on the Add-On's, a read cycle on PCI's
 abbrev pub cycles : Side → Kind → Bool
@@ -76,15 +91,9 @@ isUnknown (cycle side) = false
 isUnknown chipReset = false
 isUnknown unknown = true
 
--- a read, or a write, on a side's bus; then the same of the register at an offset
-abbrev pub isRead : Side → Kind → Bool
-isRead side k = isReadBy (partyOf side) k
+-- a party reads, or writes, the register at an offset
+abbrev pub reads : Party → ℕ → Access → Bool
+reads party at x = isReadBy party (x .kind) && eqb (x .offset) at
 
-abbrev pub isWrite : Side → Kind → Bool
-isWrite side k = isWriteBy (partyOf side) k
-
-abbrev pub reads : Side → ℕ → Access → Bool
-reads side at x = isRead side (x .kind) && eqb (x .offset) at
-
-abbrev pub writes : Side → ℕ → Access → Bool
-writes side at x = isWrite side (x .kind) && eqb (x .offset) at
+abbrev pub writes : Party → ℕ → Access → Bool
+writes party at x = isWriteBy party (x .kind) && eqb (x .offset) at

@@ -5,9 +5,9 @@ use mathlib.Core.List.{List, [], _∷_, _++_}
 use lib.Dec.{eqb, ltb}
 use lib.ListN.{length}
 use Rattle.machine.specs.Words.{bit, anyOf, only}
-use Rattle.machine.specs.Sides.{Side, pci, addon, other, either}
+use Rattle.machine.specs.Sides.{Side, pci, addon, other, either, partyOf}
 use Rattle.machine.specs.State.{State, Lane, lane, held}
-use Rattle.machine.specs.Access.{Access, isAccess, isRead, isWrite, isUnknown, cycles, reads, writes}
+use Rattle.machine.specs.Access.{Access, isAccess, isOn, isWriteOn, isUnknown, cycles, reads, writes}
 use Rattle.machine.specs.Offsets.{inTable, isReadOnly, fifoPort}
 use Rattle.machine.specs.Fifos.{depth, isEmpty, isFull}
 use Rattle.machine.specs.Window.{inside, isWindowOutOfForm}
@@ -31,9 +31,9 @@ faults st =
 unfoldable pub isOutOfForm : State → Bool
 isOutOfForm st = anyOf (faults st)
 
--- 4: not in the table of the side that reads or writes
+-- 4: not in the table of the side on which it reads or writes
 unfoldable pub isUnknownOffset : Access → Bool
-isUnknownOffset x = either (λ side. (isRead side (x .kind) || isWrite side (x .kind)) && not (inTable side (x .offset)))
+isUnknownOffset x = either (λ side. isOn side (x .kind) && not (inTable side (x .offset)))
 
 -- 5: enables above 15
 unfoldable pub hasBadEnables : Access → Bool
@@ -43,13 +43,13 @@ hasBadEnables x = isAccess (x .kind) && ltb 15 (x .enables)
 unfoldable pub isPartFifoAccess : Access → Bool
 isPartFifoAccess x = isAccess (x .kind) && eqb (x .offset) fifoPort && not (eqb (x .enables) 15)
 
--- 7: the side may only read the register that it writes
+-- 7: a write on a side to a register that is read-only there
 unfoldable pub isReadOnlyWrite : Access → Bool
-isReadOnlyWrite x = either (λ side. isWrite side (x .kind) && isReadOnly side (x .offset))
+isReadOnlyWrite x = either (λ side. isWriteOn side (x .kind) && isReadOnly side (x .offset))
 
 -- 8: a port write when its FIFO is full, a port read when its FIFO is empty; on the Add-On bus this is (house)
 abbrev pub isPortStuck : Side → State → Access → Bool
-isPortStuck side st x = writes side fifoPort x && isFull (held side st) || reads (other side) fifoPort x && isEmpty (held side st)
+isPortStuck side st x = writes (partyOf side) fifoPort x && isFull (held side st) || reads (partyOf (other side)) fifoPort x && isEmpty (held side st)
 
 unfoldable pub isFullOrEmpty : State → Access → Bool
 isFullOrEmpty st x = either (λ side. isPortStuck side st x)
@@ -99,6 +99,6 @@ abbrev pub testOf : ℕ → List (ℕ × Bool) → Bool
 testOf code [] = false
 testOf code (t ∷ ts) = cond (eqb (t .0) code) (t .1) (testOf code ts)
 
--- of all codes that apply the lowest, since the tests stand in their order; for a memory of so many words
+-- of all codes that apply the first, in the order of the tests; for a memory of so many words
 unfoldable pub codeOf : State → ℕ → ℕ → Access → ℕ
 codeOf st start words x = firstOf (tests st start words x)

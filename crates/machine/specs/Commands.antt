@@ -2,13 +2,13 @@
 use Prim.Native.Nat.{ℕ}
 use mathlib.Core.Bool.{Bool, _&&_}
 use Rattle.machine.specs.Words.{bit}
-use Rattle.machine.specs.Sides.{Side, pci, addon, either}
+use Rattle.machine.specs.Sides.{Side, pci, addon, either, partyOf}
 use Rattle.machine.specs.Offsets.{controlAt}
 use Rattle.machine.specs.Access.{Access, writes}
 
--- a side writes a one to bit k, one of 24 to 31, of its control register at 3C, byte 3 enabled
+-- the party of a side writes a one to bit k, one of 24 to 31, of its control register at 3C, byte 3 enabled
 abbrev pub commands : Side → ℕ → Access → Bool
-commands side k x = writes side controlAt x && bit (x .enables) 3 && bit (x .value) k
+commands side k x = writes (partyOf side) controlAt x && bit (x .enables) 3 && bit (x .value) k
 
 -- by 27 of either all thirty-two mailbox marks go
 abbrev pub clearsMarks : Access → Bool

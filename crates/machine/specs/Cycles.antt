@@ -5,7 +5,7 @@ use mathlib.Core.List.{List}
 use lib.Dec.{eqb, leb}
 use lib.ListN.{getD, set}
 use Rattle.machine.specs.Words.{bit, ones, shown, merged, written}
-use Rattle.machine.specs.Sides.{Side, pci, addon}
+use Rattle.machine.specs.Sides.{Side, pci, addon, host}
 use Rattle.machine.specs.State.{State, Lane, lane, held}
 use Rattle.machine.specs.Offsets.{addressAt, countAt}
 use Rattle.machine.specs.Access.{Access, writes, cycles}
@@ -63,12 +63,12 @@ runsOut count = eqb (countLeft count) 0
 
 unfoldable pub addressAfter : Side → Access → ℕ → ℕ
 addressAfter side x old =
-    cond (writes pci (addressAt side) x) (written addressKept old (x .value) (x .enables))
+    cond (writes host (addressAt side) x) (written addressKept old (x .value) (x .enables))
     (cond (cycles side (x .kind)) (nextAddress old) old)
 
 unfoldable pub countAfter : Side → Access → ℕ → ℕ
 countAfter side x old =
-    cond (writes pci (countAt side) x) (written countKept old (x .value) (x .enables))
+    cond (writes host (countAt side) x) (written countKept old (x .value) (x .enables))
     (cond (cycles side (x .kind)) (countLeft old) old)
 
 -- Ask 5: a done cycle earns the right if MCSR asks for four and there were four before it

@@ -4,7 +4,7 @@ use mathlib.Core.Bool.{Bool, false, cond, _||_}
 use mathlib.Core.List.{List, [], _∷_, _++_}
 use lib.Dec.{eqb, leb}
 use lib.ListN.{length, drop, getD}
-use Rattle.machine.specs.Sides.{Side, pci, addon, other}
+use Rattle.machine.specs.Sides.{Side, pci, addon, other, partyOf}
 use Rattle.machine.specs.Offsets.{fifoPort}
 use Rattle.machine.specs.Access.{Access, reads, writes, cycles}
 use Rattle.machine.specs.Commands.{clearsFifo}
@@ -37,13 +37,13 @@ abbrev pub cycleTakes : Side → Access → Bool
 cycleTakes pci x = false
 cycleTakes addon x = cycles addon (x .kind)
 
--- The words that a done step lets in: the word that its answer shows for a cycle, its data for a port write by the side.
+-- The words that a done step lets in: the word that its answer shows for a cycle, its data for a port write by the side's party.
 abbrev pub letIn : Side → Access → ℕ → List ℕ
-letIn side x answered = cond (cycleFeeds side x) (answered ∷ []) (cond (writes side fifoPort x) (x .value ∷ []) [])
+letIn side x answered = cond (cycleFeeds side x) (answered ∷ []) (cond (writes (partyOf side) fifoPort x) (x .value ∷ []) [])
 
--- The words that it hands out: the word that its answer shows, for a cycle or a port read by the other side.
+-- The words that it hands out: the word that its answer shows, for a cycle or a port read by the other side's party.
 abbrev pub handedOut : Side → Access → ℕ → List ℕ
-handedOut side x answered = cond (cycleTakes side x || reads (other side) fifoPort x) (answered ∷ []) []
+handedOut side x answered = cond (cycleTakes side x || reads (partyOf (other side)) fifoPort x) (answered ∷ []) []
 
 -- one list behind another; with nothing new it computes to the first
 abbrev pub followed : List ℕ → List ℕ → List ℕ

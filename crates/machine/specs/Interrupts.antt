@@ -4,7 +4,7 @@ use mathlib.Core.Bool.{Bool, true, cond, _&&_, _||_}
 use lib.Dec.{eqb}
 use lib.Bits.{bitAnd, bitOr}
 use Rattle.machine.specs.Words.{bit, ones, shown, cleared, raised, written}
-use Rattle.machine.specs.Sides.{Side, pci, addon, sameSide, sideOf}
+use Rattle.machine.specs.Sides.{Side, pci, addon, sameSide, sideOf, partyOf, sameParty}
 use Rattle.machine.specs.State.{State, lane}
 use Rattle.machine.specs.Offsets.{interruptsAt}
 use Rattle.machine.specs.Access.{Access, Kind, reading, writing, cycle, chipReset, unknown}
@@ -15,9 +15,10 @@ abbrev pub interrupts : Side → State → ℕ
 interrupts pci st = st .intcsr
 interrupts addon st = st .aint
 
--- the bits that stay as written, in both: 4 to 0, 12 to 8, 15 and 14
-abbrev pub interruptsKept : ℕ
-interruptsKept = ones 0 4 + ones 8 12 + ones 14 15
+-- the bits that stay as written, of either register: 4 to 0, 12 to 8, 15 and 14
+abbrev pub interruptsKept : Side → ℕ
+interruptsKept pci = ones 0 4 + ones 8 12 + ones 14 15
+interruptsKept addon = ones 0 4 + ones 8 12 + ones 14 15
 
 -- the flags, which events set and a written one clears: 21 to 16; AINT has no 20, which is the self test's and left aside
 abbrev pub flags : Side → ℕ
@@ -25,11 +26,11 @@ flags pci = ones 16 21
 flags addon = ones 16 19 + ones 21 21
 
 abbrev pub interruptsHeld : Side → ℕ
-interruptsHeld side = interruptsKept + flags side
+interruptsHeld side = interruptsKept side + flags side
 
 -- the kept bits are written; a one written to a flag clears it, a zero leaves it; both only where the byte is enabled
 unfoldable pub interruptsWritten : Side → ℕ → ℕ → ℕ → ℕ
-interruptsWritten side old new enables = bitOr (written interruptsKept old new enables) (cleared (bitAnd old (flags side)) (shown new enables))
+interruptsWritten side old new enables = bitOr (written (interruptsKept side) old new enables) (cleared (bitAnd old (flags side)) (shown new enables))
 
 -- The status bit of the byte that bits 3:2 (mailbox, 0 is mailbox 1) and 1:0 (byte) choose among PCI's outgoing ones,
 -- and that 11:10 and 9:8 choose among its incoming ones. AINT chooses by the same bits.
@@ -55,12 +56,12 @@ abbrev pub countBit : Side → ℕ
 countBit pci = 19
 countBit addon = 18
 
--- A side's register after a done step that is no reset. The side itself writes it; the other side's accesses are its events, and so are cycles.
+-- A side's register after a done step that is no reset. The side's party writes it; the other side's accesses are its events, and so are cycles.
 unfoldable pub interruptsAfter : Side → Kind → State → Access → ℕ
 interruptsAfter side (reading by) st x = cond (sameSide side (sideOf by)) (interrupts side st) (notified (interrupts side st) (changes x (st .marks)))
 interruptsAfter side (writing by) st x =
     let i = interrupts side st in
-    cond (sameSide side (sideOf by)) (cond (eqb (x .offset) interruptsAt) (interruptsWritten side i (x .value) (x .enables)) i) (notified i (changes x (st .marks)))
+    cond (sameSide side (sideOf by)) (cond (sameParty (partyOf side) by && eqb (x .offset) interruptsAt) (interruptsWritten side i (x .value) (x .enables)) i) (notified i (changes x (st .marks)))
 interruptsAfter side (cycle of) st x = raised (interrupts side st) (runsOut (lane of st .count)) (countBit of)
 interruptsAfter side chipReset st x = interrupts side st
 interruptsAfter side unknown st x = interrupts side st

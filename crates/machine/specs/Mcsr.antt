@@ -5,7 +5,7 @@ use mathlib.Core.List.{List}
 use lib.Dec.{eqb, leb}
 use lib.Bits.{bitOr}
 use Rattle.machine.specs.Words.{ones, flag, written}
-use Rattle.machine.specs.Sides.{Side, pci, addon}
+use Rattle.machine.specs.Sides.{Side, pci, addon, host}
 use Rattle.machine.specs.State.{State, lane, held}
 use Rattle.machine.specs.Offsets.{controlAt}
 use Rattle.machine.specs.Access.{Access, writes}
@@ -26,7 +26,7 @@ fourBit pci = 13
 fourBit addon = 9
 
 unfoldable pub mcsrAfter : Access → ℕ → ℕ
-mcsrAfter x old = cond (writes pci controlAt x) (written mcsrKept old (x .value) (x .enables)) old
+mcsrAfter x old = cond (writes host controlAt x) (written mcsrKept old (x .value) (x .enables)) old
 
 -- three bits of a FIFO: empty at 2, full at 0; at 1 four or more, counting free places of the one from PCI and words of the one from the Add-On
 unfoldable pub fifoStatus : Side → List ℕ → ℕ

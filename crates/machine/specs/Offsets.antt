@@ -2,7 +2,7 @@
 use Prim.Native.Nat.{ℕ, _/_, _%_}
 use mathlib.Core.Bool.{Bool, cond, not, _&&_, _||_}
 use lib.Dec.{eqb, ltb}
-use Rattle.machine.specs.Sides.{Side, pci, addon, Party, host, card, partyOf, sameParty}
+use Rattle.machine.specs.Sides.{Side, pci, addon, sameSide, Party, host, card, sideOf}
 
 -- eight mailboxes, four bytes apart from 00 on: PCI's four outgoing ones, then its four incoming ones; both sides have them at the same offsets
 abbrev pub isMailbox : ℕ → Bool
@@ -51,6 +51,6 @@ abbrev pub inTable : Side → ℕ → Bool
 inTable pci offset = ltb offset 0x40 && eqb (offset % 4) 0
 inTable addon offset = isMailbox offset || eqb offset fifoPort || eqb offset statusAt || eqb offset interruptsAt || eqb offset controlAt
 
--- read-only to a side: the mailboxes that it does not own, and the status
+-- read-only on a side: the mailboxes that no party of it owns, and the status
 abbrev pub isReadOnly : Side → ℕ → Bool
-isReadOnly side offset = isMailbox offset && not (sameParty (writer offset) (partyOf side)) || eqb offset statusAt
+isReadOnly side offset = isMailbox offset && not (sameSide side (sideOf (writer offset))) || eqb offset statusAt

@@ -1,11 +1,11 @@
 -- Ask 5: what ends the right of a burst.
 use Prim.Native.Nat.{ℕ}
-use mathlib.Core.Bool.{Bool, false, not, _&&_}
+use mathlib.Core.Bool.{Bool, not, _&&_}
 use mathlib.Core.List.{List, [], _∷_}
 use lib.Dec.{eqb}
 use Rattle.machine.specs.Words.{bit, anyOf}
 use Rattle.machine.specs.Sides.{Side, pci, addon}
-use Rattle.machine.specs.State.{State, Lane}
+use Rattle.machine.specs.State.{State, Lane, withRight, withLanes}
 use Rattle.machine.specs.Fifos.{amount}
 use Rattle.machine.specs.Mcsr.{fourBit, enableBit}
 use Rattle.machine.specs.Interrupts.{abortIn}
@@ -21,20 +21,7 @@ ended side l mcsr intcsr = anyOf (ends side l mcsr intcsr)
 
 -- a lane whose right is left only if none of them holds
 abbrev pub settledLane : Side → Lane → ℕ → ℕ → Lane
-settledLane side l mcsr intcsr = record { words = l .words; address = l .address; count = l .count; right = l .right && not (ended side l mcsr intcsr) }
+settledLane side l mcsr intcsr = withRight (l .right && not (ended side l mcsr intcsr)) l
 
 unfoldable pub settled : State → State
-settled st =
-    record {
-      mail = st .mail;
-      marks = st .marks;
-      fromPci = settledLane pci (st .fromPci) (st .mcsr) (st .intcsr);
-      fromAddon = settledLane addon (st .fromAddon) (st .mcsr) (st .intcsr);
-      intcsr = st .intcsr;
-      mcsr = st .mcsr;
-      aint = st .aint;
-    }
-
--- a lane without a right
-abbrev pub rightless : Lane → Lane
-rightless l = record { words = l .words; address = l .address; count = l .count; right = false }
+settled st = withLanes (λ side l. settledLane side l (st .mcsr) (st .intcsr)) st

@@ -32,6 +32,18 @@ lane addon st = st .fromAddon
 abbrev pub held : Side → State → List ℕ
 held side st = lane side st .words
 
+-- All else as it was: a lane with another right; a state with other lanes; a state with other interrupt registers.
+abbrev pub withRight : Bool → Lane → Lane
+withRight right l = record { words = l .words; address = l .address; count = l .count; right = right }
+
+abbrev pub withLanes : (Side → Lane → Lane) → State → State
+withLanes new st =
+    record { mail = st .mail; marks = st .marks; fromPci = new pci (st .fromPci); fromAddon = new addon (st .fromAddon); intcsr = st .intcsr; mcsr = st .mcsr; aint = st .aint }
+
+abbrev pub withInterrupts : (Side → ℕ → ℕ) → State → State
+withInterrupts new st =
+    record { mail = st .mail; marks = st .marks; fromPci = st .fromPci; fromAddon = st .fromAddon; intcsr = new pci (st .intcsr); mcsr = st .mcsr; aint = new addon (st .aint) }
+
 -- Register offsets, Ask 5: after a reset everything held is zero, no word is in a FIFO and no cycle has a right
 abbrev pub resetLane : Lane
 resetLane = record { words = []; address = 0; count = 0; right = false }

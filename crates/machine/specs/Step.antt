@@ -1,12 +1,12 @@
 -- One step: the code, the answer, and the state and memory after it. For every state, memory, start and numbers.
 use Prim.Native.Nat.{ℕ}
-use mathlib.Core.Bool.{cond, not, _&&_}
+use mathlib.Core.Bool.{false, cond, not, _&&_}
 use mathlib.Core.List.{List}
 use lib.Dec.{eqb}
 use lib.ListN.{length, getD}
 use Rattle.machine.specs.Words.{bit, flag, byteMask, mask, cleared, raised, shown, merged, written, only}
 use Rattle.machine.specs.Sides.{Side, pci, addon, other, Party, sideOf}
-use Rattle.machine.specs.State.{State, lane, held, resetState}
+use Rattle.machine.specs.State.{State, lane, held, withRight, withLanes, withInterrupts, resetState}
 use Rattle.machine.specs.Access.{Access, accessOf, Kind, reading, writing, cycle, chipReset, unknown, isReset, cycles}
 use Rattle.machine.specs.Offsets.{isMailbox, mailbox, fifoPort, addressAt, countAt, statusAt, interruptsAt}
 use Rattle.machine.specs.Mailboxes.{marksAt, changes, marksAfter, mailAfter}
@@ -15,7 +15,7 @@ use Rattle.machine.specs.Window.{placeOf, isWindowOutOfForm}
 use Rattle.machine.specs.Mcsr.{mcsrAfter, fifoStatus, mcsrStatus, mcsrRead, agcstsRead}
 use Rattle.machine.specs.Cycles.{lowEnables, isReady, cycleWord, stored, addressAfter, countAfter, rightAfter, laneAfter}
 use Rattle.machine.specs.Interrupts.{interrupts, interruptsWritten, outgoingEvent, incomingEvent, notified, interruptsAfter, interruptsAborted, lineOf, interruptsRead}
-use Rattle.machine.specs.Rights.{settled, rightless}
+use Rattle.machine.specs.Rights.{settled}
 use Rattle.machine.specs.Codes.{done, stateOutOfForm, noMemoryThere, notAFrameLine}
 use Rattle.machine.specs.Code.{codeOf, isOutOfForm, isUnknownOffset, hasBadEnables, isPartFifoAccess, isReadOnlyWrite, isFullOrEmpty, isTransferOff, isCountZero, isAbortStanding, isNotReady, isNoMemory}
 use Rattle.machine.specs.declared.Step.{Step}
@@ -120,16 +120,7 @@ doneState st x word = settled (movedState st x word)
 
 -- code 13: the abort flag of either interrupt register goes up, which ends both rights (Ask 5); all else stays
 unfoldable pub abortedState : State → State
-abortedState st =
-    record {
-      mail = st .mail;
-      marks = st .marks;
-      fromPci = rightless (st .fromPci);
-      fromAddon = rightless (st .fromAddon);
-      intcsr = interruptsAborted pci (st .intcsr);
-      mcsr = st .mcsr;
-      aint = interruptsAborted addon (st .aint);
-    }
+abortedState st = withInterrupts interruptsAborted (withLanes (λ side l. withRight false l) st)
 
 -- a refusal by any code but 13 leaves the state as it was
 unfoldable pub stateAfter : State → Access → ℕ → ℕ → State

@@ -1,7 +1,7 @@
 -- What a done step answers, and the rules that its answer goes by: offsets, registers, readiness, places and the line.
 use Prim.Native.Nat.{ℕ, zero, suc, _-_, _*_, _/_, _%_, _^_, _≤_, _<_, min}
 use mathlib.Core.Path.{_≡_, refl, sym, _∙_}
-use mathlib.Core.Bool.{Bool, true, false, cond, not, _&&_, _||_, or-false, and-comm}
+use mathlib.Core.Bool.{Bool, true, false, cond, not, _&&_, _||_, or-false, and-comm, false≢true}
 use mathlib.Core.List.{List, [], _∷_}
 use native.Mathlib.Omega.{arith}
 use lib.Dec.{eqb, leb, ltb}
@@ -18,7 +18,7 @@ use Rattle.machine.specs.Cycles.{lowEnables, isReady, cycleWord}
 use Rattle.machine.specs.Interrupts.{lineOf}
 use Rattle.machine.specs.Code.{codeOf, tests}
 use Rattle.machine.specs.Step.{register, readValue, Reply, nothing, doneReply, abortedReply, replyOf, answered, respond, stepOf}
-use Rattle.promises.specs.Readings.{isOneOf, pciOffsets, addonOffsets, pciReadOnly, addonReadOnly, OffsetTable, OffsetTables, RegisterTables, ReadyRule, PlaceRule, isLineHigh, LineRule, addresses, values, lowestEnables, AnswerRule}
+use Rattle.promises.specs.Readings.{isOneOf, isAccessKind, pciOffsets, addonOffsets, pciReadOnly, addonReadOnly, OffsetTable, OffsetTables, RegisterTables, ReadyRule, PlaceRule, isLineHigh, LineRule, addresses, values, lowestEnables, AnswerRule}
 use Rattle.machine.specs.declared.Step.{Step}
 use Rattle.laws.proofs.Tests.{and-left, and-right, none-applies}
 use Rattle.laws.proofs.KindNumbers.{named, aborted-reply}
@@ -30,16 +30,23 @@ use Rattle.laws.proofs.Refused.{line-cond}
 -- ---- registers
 
 -- an offset of 64 or more is none of a list of smaller ones
-allBelow : ℕ → List ℕ → Bool
+abbrev pub allBelow : ℕ → List ℕ → Bool
 allBelow n [] = true
 allBelow n (x ∷ xs) = ltb x n && allBelow n xs
 
 none-of : (n : ℕ) (xs : List ℕ) (offset : ℕ) → allBelow n xs ≡ true → n ≤ offset → isOneOf xs offset ≡ false
-unfolding allBelow
 none-of n [] offset e h = refl
 none-of n (x ∷ xs) offset e h =
     let l = ltb-true x n (and-left (ltb x n) (allBelow n xs) e) in
     rw (ne-eqb offset x (λ q. omega arith)) (none-of n xs offset (and-right (ltb x n) (allBelow n xs) e) h)
+
+-- one of numbers below a bound is below it
+pub in-list : (n : ℕ) (xs : List ℕ) (x : ℕ) → allBelow n xs ≡ true → isOneOf xs x ≡ true → x < n
+in-list n xs x e h = by (ltb x n) refl
+  where
+    by : (b : Bool) → ltb x n ≡ b → x < n
+    by true q = ltb-true x n q
+    by false q = absurd (false≢true (sym (none-of n xs x e (ltb-false x n q)) ∙ h))
 
 -- a test of offsets against a list: below 64 by computation, from there on neither holds
 module _ (offset : ℕ) where
@@ -171,7 +178,7 @@ shown-low x count = by-bits _ _ (λ k. at k (ltb k 32) refl)
 module _ (st : State) (start : ℕ) (memory : List ℕ) (s : Step) where
   -- what a done step of each kind answers
   by-number : (k : ℕ) → Reply
-  by-number k = record { address = getD (addresses st) k 0; value = getD (values st start memory s) k 0; enables = getD (lowestEnables st) k 0; changed = cond (ltb k 4) (changes (accessOf s) (st .marks)) 0 }
+  by-number k = record { address = getD (addresses st) k 0; value = getD (values st start memory s) k 0; enables = getD (lowestEnables st) k 0; changed = cond (isAccessKind k) (changes (accessOf s) (st .marks)) 0 }
 
   reply-is : (k : ℕ) → doneReply (kindOf k) st start memory (accessOf s) ≡ by-number k
   unfolding by-number doneReply readValue cycleWord lowEnables
@@ -189,11 +196,13 @@ module _ (st : State) (start : ℕ) (memory : List ℕ) (s : Step) where
         changed = 0;
       }
   reply-is (suc (suc (suc (suc (suc (suc zero)))))) = refl
-  reply-is (suc (suc (suc (suc (suc (suc (suc n))))))) = rw (le-ltb (suc (suc (suc (suc (suc (suc (suc n))))))) 4 (omega arith))
+  reply-is (suc (suc (suc (suc (suc (suc (suc n))))))) =
+      let k = suc (suc (suc (suc (suc (suc (suc n)))))) in
+      rw (ne-eqb k 0 (λ q. omega arith), ne-eqb k 1 (λ q. omega arith), ne-eqb k 2 (λ q. omega arith), ne-eqb k 3 (λ q. omega arith))
 
 -- the marks that a step changed, by its code and kind
 pub changed-is : (st : State) (start : ℕ) (memory : List ℕ) (s : Step)
-    → stepOf st start memory s .answer .changed ≡ cond (eqb (codeOf st start (length memory) (accessOf s)) 0 && ltb (s .kind) 4) (changes (accessOf s) (st .marks)) 0
+    → stepOf st start memory s .answer .changed ≡ cond (eqb (codeOf st start (length memory) (accessOf s)) 0 && isAccessKind (s .kind)) (changes (accessOf s) (st .marks)) 0
 unfolding stepOf respond answered replyOf by-number
 changed-is st start memory s = by (eqb code 0) (eqb code 13)
   where
@@ -202,7 +211,7 @@ changed-is st start memory s = by (eqb code 0) (eqb code 13)
 
     by : (done absent : Bool)
         → cond done (doneReply (accessOf s .kind) st start memory (accessOf s)) (cond absent (abortedReply (accessOf s .kind) st) nothing) .changed
-        ≡ cond (done && ltb (s .kind) 4) (changes (accessOf s) (st .marks)) 0
+        ≡ cond (done && isAccessKind (s .kind)) (changes (accessOf s) (st .marks)) 0
     by true absent = λ i. reply-is st start memory s (s .kind) i .changed
     by false true = λ i. aborted-reply st (s .kind) i .changed
     by false false = refl

@@ -17,12 +17,12 @@ use Rattle.machine.specs.Rights.{ends}
 use Rattle.machine.specs.Code.{codeOf, isOutOfForm, isUnknownOffset, hasBadEnables, isPartFifoAccess, isReadOnlyWrite, isFullOrEmpty, isTransferOff, isCountZero, isAbortStanding, isNotReady, isNoMemory}
 use Rattle.machine.specs.Step.{stepOf, respond, answered}
 use Rattle.machine.specs.declared.Step.{Step}
-use Rattle.promises.specs.Readings.{isOneOf}
-use Rattle.promises.specs.CodeTable.{firstThat, bitsAt, intcsrBits, mcsrBits, aintBits, holdsOther, isAborted, isReadEnded, isWriteEnded, isLaneWrong, isStateWrong, byPci, byAddon, ofCycles, isOutside, codeTable, CodeRule, FirstCode, EveryCode, Numbered}
+use Rattle.promises.specs.Readings.{isOneOf, isAccessKind}
+use Rattle.promises.specs.CodeTable.{firstThat, bitsAt, intcsrBits, mcsrBits, aintBits, holdsOther, isAborted, isReadEnded, isWriteEnded, isLaneWrong, isStateWrong, ofCycles, isOutside, codeTable, stepCodes, CodeRule, FirstCode, EveryCode, Numbered}
 use Rattle.laws.proofs.Tests.{any-four, any-five}
 use Rattle.laws.proofs.Bits.{bit-and, bit-or, bit-flag, by-bits}
 use Rattle.laws.proofs.KindNumbers.{named}
-use Rattle.promises.proofs.First.{every-of, first-of}
+use Rattle.promises.proofs.First.{allOf, every-of, first-of}
 use Rattle.promises.proofs.Answers.{offset-table, ready-rule}
 
 -- ---- code 1: bits at places, against a mask
@@ -78,7 +78,7 @@ wrong-is st =
 
 -- ---- the kinds of the tests of accesses
 
-access-is : (k : ℕ) → isAccess (kindOf k) ≡ (byPci k || byAddon k)
+access-is : (k : ℕ) → isAccess (kindOf k) ≡ isAccessKind k
 access-is zero = refl
 access-is (suc zero) = refl
 access-is (suc (suc zero)) = refl
@@ -104,10 +104,10 @@ table-is st start words s =
     (1, wrong-is st i)
     ∷ (2, not (eqb (start % 4) 0) || ltb 16384 words)
     ∷ (3, n .unknown i)
-    ∷ (4, (n .pciRead i || n .pciWrite i) && not (o .inPci i) || (n .addonRead i || n .addonWrite i) && not (o .inAddon i))
+    ∷ (4, n .onPci i && not (o .inPci i) || n .onAddon i && not (o .inAddon i))
     ∷ (5, access i && ltb 15 (s .enables))
     ∷ (6, access i && port && not (eqb (s .enables) 15))
-    ∷ (7, n .pciWrite i && o .readOnlyToPci i || n .addonWrite i && o .readOnlyToAddon i)
+    ∷ (7, n .writeOnPci i && o .readOnlyToPci i || n .writeOnAddon i && o .readOnlyToAddon i)
     ∷ (8, n .pciWrite i && port && leb 8 (length (st .fromPci .words)) || n .addonRead i && port && eqb (length (st .fromPci .words)) 0 || (n .addonWrite i && port && leb 8 (length (st .fromAddon .words)) || n .pciRead i && port && eqb (length (st .fromAddon .words)) 0))
     ∷ (9, cycling (not (bit (st .mcsr) 14)) (not (bit (st .mcsr) 10)) i)
     ∷ (10, cycling (eqb (st .fromPci .count) 0) (eqb (st .fromAddon .count) 0) i)
@@ -127,12 +127,10 @@ first st start memory s = rw (code-rule st start memory s) (first-of (codeTable 
 pub every-code : EveryCode
 every-code st start words s = refl
 
-pub numbered : Numbered
-numbered st start memory s =
-    rw (code-rule st start memory s) (every-of (isOneOf (0 ∷ 1 ∷ 2 ∷ 3 ∷ 4 ∷ 5 ∷ 6 ∷ 7 ∷ 8 ∷ 9 ∷ 10 ∷ 11 ∷ 12 ∷ 13 ∷ [])) (codeTable st start (length memory) s) refl)
+-- a test that 0 and every code of the table pass
+pub each-code : (test : ℕ → Bool) (st : State) (start : ℕ) (memory : List ℕ) (s : Step) → allOf test (codeTable st start (length memory) s) ≡ true
+    → test (stepOf st start memory s .answer .code) ≡ true
+each-code test st start memory s e = rw (code-rule st start memory s) (every-of test (codeTable st start (length memory) s) e)
 
--- so none is above 13
-pub at-most-13 : (st : State) (start : ℕ) (memory : List ℕ) (s : Step) → stepOf st start memory s .answer .code ≤ 13
-at-most-13 st start memory s =
-    let small : leb (stepOf st start memory s .answer .code) 13 ≡ true = rw (code-rule st start memory s) (every-of (λ c. leb c 13) (codeTable st start (length memory) s) refl) in
-    leb-true _ 13 small
+pub numbered : Numbered
+numbered st start memory s = each-code (isOneOf stepCodes) st start memory s refl

@@ -100,11 +100,15 @@ module _ (side : Side) (k : ℕ) (h : k < 32) (f : bit (flags side) k ≡ true) 
       by false e pci g = absurd (true≢false (sym g ∙ kept-bits k h .pciFlags ∙ rw e))
       by false e addon g = let l = leb-false 16 k e in absurd (true≢false (sym g ∙ kept-bits k h .addonFlags ∙ rw (e, ne-eqb k 21 (λ q. omega arith))))
 
-  not-kept : bit interruptsKept k ≡ false
-  not-kept =
+  not-kept : (of : Side) → bit (interruptsKept of) k ≡ false
+  not-kept of =
       let l = high in
-      kept-bits k h .interrupts
+      kept of
       ∙ simp (lt-leb k 4 (omega arith), lt-leb k 12 (omega arith), ne-eqb k 14 (λ q. omega arith), ne-eqb k 15 (λ q. omega arith), and-false)
+    where
+      kept : (by : Side) → bit (interruptsKept by) k ≡ (leb k 4 || leb 8 k && leb k 12 || eqb k 14 || eqb k 15)
+      kept pci = kept-bits k h .intcsr
+      kept addon = kept-bits k h .aint
 
   -- nothing is set, nothing acknowledged
   quiet : (b : Bool) → b ≡ (b && not false || (eqb k 16 && false || eqb k 17 && false || eqb k 18 && false || eqb k 19 && false))

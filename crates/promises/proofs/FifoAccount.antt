@@ -7,7 +7,7 @@ use native.Mathlib.Omega.{arith}
 use lib.Dec.{eqb, leb, eqb·suc-zero}
 use lib.ListN.{length, drop}
 use Rattle.machine.specs.Words.{bit}
-use Rattle.machine.specs.Sides.{Side, pci, addon, other, host, card}
+use Rattle.machine.specs.Sides.{Side, pci, addon, other, host, card, partyOf}
 use Rattle.machine.specs.State.{State, held, resetState}
 use Rattle.machine.specs.Access.{Access, accessOf, Kind, reading, writing, cycle, chipReset, unknown, cycles, reads, writes}
 use Rattle.machine.specs.Offsets.{fifoPort}
@@ -46,9 +46,9 @@ held-reset pci = refl
 held-reset addon = refl
 
 -- code 8 keeps a port read from an empty FIFO, and code 12 a write cycle
-not-stuck : (side : Side) (st : State) (x : Access) → isFullOrEmpty st x ≡ false → (reads (other side) fifoPort x && isEmpty (held side st)) ≡ false
+not-stuck : (side : Side) (st : State) (x : Access) → isFullOrEmpty st x ≡ false → (reads (partyOf (other side)) fifoPort x && isEmpty (held side st)) ≡ false
 unfolding isFullOrEmpty
-not-stuck side st x e = or-right (writes side fifoPort x && isFull (held side st)) _ (neither (λ s. isPortStuck s st x) e side)
+not-stuck side st x e = or-right (writes (partyOf side) fifoPort x && isFull (held side st)) _ (neither (λ s. isPortStuck s st x) e side)
 
 ready-holds : (four : Bool) (ws : List ℕ) → not (leb (cond four 4 1) (length ws)) ≡ false → isEmpty ws ≡ false
 ready-holds true [] e = e
@@ -111,7 +111,7 @@ has-room : (side : Side) (st : State) (start words : ℕ) (x : Access) (word out
 unfolding codeOf
 has-room side st start words x word out e =
     let none = none-applies (tests st start words x) refl e in
-    one-fits (cycleFeeds side x) (writes side fifoPort x) (length (held side st)) out word (x .value) (room-to-read side st x (none 12)) (room-to-write side st x (none 8))
+    one-fits (cycleFeeds side x) (writes (partyOf side) fifoPort x) (length (held side st)) out word (x .value) (room-to-read side st x (none 12)) (room-to-write side st x (none 8))
 
 -- ---- a step is a move of a queue eight deep
 

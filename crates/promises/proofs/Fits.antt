@@ -10,7 +10,7 @@ use lib.Bits.{bitAnd, bitOr, bitXor, or-lt, xor-lt, and-le-l, and-le-r}
 use lib.ListN.{length, getD, set, drop}
 use borrow.Author.Tests.{eqb-true}
 use Rattle.machine.specs.Words.{ones, flag, mask, raised, cleared, shown, merged, written}
-use Rattle.machine.specs.Sides.{Side, pci, addon, sameSide, sideOf}
+use Rattle.machine.specs.Sides.{Side, pci, addon, sameSide, sideOf, host, partyOf, sameParty}
 use Rattle.machine.specs.State.{Lane, State, resetState}
 use Rattle.machine.specs.Access.{Access, accessOf, Kind, reading, writing, cycle, chipReset, unknown, isReset, cycles, writes, isReadBy, isWriteBy}
 use Rattle.machine.specs.Offsets.{isMailbox, mailbox, writer, reader, fifoPort, addressAt, countAt, statusAt, interruptsAt, controlAt}
@@ -24,16 +24,16 @@ use Rattle.machine.specs.Interrupts.{interrupts, interruptsKept, flags, interru
 use Rattle.machine.specs.Code.{codeOf}
 use Rattle.machine.specs.Rights.{settled}
 use Rattle.machine.specs.Step.{Outcome, controlRead, register, notAFrame, answered, movedState, doneState, abortedState, stateAfter, memoryAfter, replyOf, respond, stepOf}
-use Rattle.promises.specs.Readings.{readThen, addresses, values, lowestEnables}
+use Rattle.promises.specs.Readings.{isOneOf, isAccessKind, readThen, addresses, values, lowestEnables}
 use Rattle.promises.specs.Theorems.{cycleAddress}
-use Rattle.promises.specs.Fits.{AllBelow, WordsFit, LaneFits, StateFits, AnswerFits, ResetFits, FitKept, RunsFit, toStep, toNoFrame, GivenFits}
+use Rattle.promises.specs.Fits.{AllBelow, WordsFit, LaneFits, StateFits, answerCodes, AnswerFits, ResetFits, FitKept, RunsFit, toStep, toNoFrame, GivenFits}
 use Rattle.machine.specs.declared.Step.{Step}
 use Rattle.laws.proofs.Tests.{and-right}
 use Rattle.promises.proofs.Bytes.{shown-lt}
 use Rattle.laws.proofs.Marks.{marks-lt}
 use Rattle.laws.proofs.Status.{status-small}
 use Rattle.promises.proofs.Refused.{refused, aborted}
-use Rattle.promises.proofs.CodeTable.{at-most-13}
+use Rattle.promises.proofs.CodeTable.{each-code}
 use Rattle.promises.proofs.Answers.{changed-is, answer-rule}
 
 -- ---- lists
@@ -119,15 +119,15 @@ fifo-fits : (side : Side) (x : Access) (word : ℕ) (ws : List ℕ) → word < 2
 fifo-fits side x word ws p q h =
     cond-below (2 ^ 32) (clearsFifo side x) [] _ tt
     (followed-below (2 ^ 32) (drop (length (handedOut side x word)) ws) (letIn side x word) (drop-below (2 ^ 32) (length (handedOut side x word)) ws h)
-    (cond-below (2 ^ 32) (cycleFeeds side x) (word ∷ []) _ (p, tt) (cond-below (2 ^ 32) (writes side fifoPort x) (x .value ∷ []) [] (q, tt) tt)))
+    (cond-below (2 ^ 32) (cycleFeeds side x) (word ∷ []) _ (p, tt) (cond-below (2 ^ 32) (writes (partyOf side) fifoPort x) (x .value ∷ []) [] (q, tt) tt)))
 
 lane-fits : (side : Side) (x : Access) (word : ℕ) (m : ℕ) (l : Lane) → word < 2 ^ 32 → x .value < 2 ^ 32 → LaneFits l → LaneFits (laneAfter side x m word l)
 unfolding addressAfter countAfter
 lane-fits side x word m l p q h =
     record {
       words = fifo-fits side x word (l .words) p q (h .words);
-      address = below-cond (writes pci (addressAt side) x) (written-lt addressKept (l .address) (x .value) (x .enables)) (below-cond (cycles side (x .kind)) (mod-lt (l .address + 4) (omega arith)) (h .address));
-      count = below-cond (writes pci (countAt side) x) (written-lt countKept (l .count) (x .value) (x .enables)) (below-cond (cycles side (x .kind)) (let c = h .count in omega arith) (h .count));
+      address = below-cond (writes host (addressAt side) x) (written-lt addressKept (l .address) (x .value) (x .enables)) (below-cond (cycles side (x .kind)) (mod-lt (l .address + 4) (omega arith)) (h .address));
+      count = below-cond (writes host (countAt side) x) (written-lt countKept (l .count) (x .value) (x .enables)) (below-cond (cycles side (x .kind)) (let c = h .count in omega arith) (h .count));
     }
 
 notified-fits : (i changed : ℕ) → i < 2 ^ 32 → notified i changed < 2 ^ 32
@@ -140,8 +140,8 @@ interrupts-fit side (reading by) st x h = below-cond (sameSide side (sideOf by))
 interrupts-fit side (writing by) st x h =
     let i = interrupts side st in
     below-cond (sameSide side (sideOf by))
-    (below-cond (eqb (x .offset) interruptsAt)
-    (or-lt 32 _ _ (written-lt interruptsKept i (x .value) (x .enables)) (cleared-lt (bitAnd i (flags side)) (shown (x .value) (x .enables)))) h)
+    (below-cond (sameParty (partyOf side) by && eqb (x .offset) interruptsAt)
+    (or-lt 32 _ _ (written-lt (interruptsKept side) i (x .value) (x .enables)) (cleared-lt (bitAnd i (flags side)) (shown (x .value) (x .enables)))) h)
     (notified-fits i _ h)
 interrupts-fit side (cycle pci) st x h = raised-lt (interrupts side st) _ 19 (omega arith) h
 interrupts-fit side (cycle addon) st x h = raised-lt (interrupts side st) _ 18 (omega arith) h
@@ -150,7 +150,7 @@ interrupts-fit side unknown st x h = h
 
 mcsr-fits : (x : Access) (old : ℕ) → old < 2 ^ 32 → mcsrAfter x old < 2 ^ 32
 unfolding mcsrAfter
-mcsr-fits x old h = below-cond (writes pci controlAt x) (written-lt mcsrKept old (x .value) (x .enables)) h
+mcsr-fits x old h = below-cond (writes host controlAt x) (written-lt mcsrKept old (x .value) (x .enables)) h
 
 done-fits : (st : State) (x : Access) (word : ℕ) → word < 2 ^ 32 → x .value < 2 ^ 32 → StateFits st → StateFits (doneState st x word)
 unfolding movedState settled doneState
@@ -277,13 +277,13 @@ module _ (st : State) (start : ℕ) (memory : List ℕ) (s : Step) (h : StateFit
   )
 
   changed-lt : o .answer .changed < 2 ^ 32
-  changed-lt = rw (changed-is st start memory s) (below-cond (eqb (codeOf st start (length memory) (accessOf s)) 0 && ltb (s .kind) 4) (changes-fit (accessOf s) (st .marks)) z)
+  changed-lt = rw (changed-is st start memory s) (below-cond (eqb (codeOf st start (length memory) (accessOf s)) 0 && isAccessKind (s .kind)) (changes-fit (accessOf s) (st .marks)) z)
 
   by-code : (done absent : Bool) → eqb (o .answer .code) 0 ≡ done → eqb (o .answer .code) 13 ≡ absent → AnswerFits (o .answer)
   by-code true absent p q =
       let r = answer-rule st start memory s (eqb-true (o .answer .code) 0 p) in
       record {
-        code = omega (arith, at-most-13 st start memory s);
+        code = each-code (isOneOf answerCodes) st start memory s refl;
         address = rw (r .address) (at-lt (2 ^ 32) (addresses st) (s .kind) z (z, (z, (z, (z, (h .fromAddon .address, (h .fromPci .address, (z, tt))))))));
         value = rw (r .value) (at-lt (2 ^ 32) (values st start memory s) (s .kind) z values-fit);
         enables = rw (r .enables) (at-lt 16 (lowestEnables st) (s .kind) (omega arith) (omega arith, (omega arith, (omega arith, (omega arith, (low-lt (st .fromAddon .count), (low-lt (st .fromPci .count), (omega arith, tt))))))));
@@ -292,9 +292,9 @@ module _ (st : State) (start : ℕ) (memory : List ℕ) (s : Step) (h : StateFit
   by-code false true p q =
       let a = aborted st start memory s (eqb-true (o .answer .code) 13 q) .1 .1 in
       let where-to : cycleAddress st s < 2 ^ 32 = below-cond (eqb (s .kind) 4) (h .fromAddon .address) (below-cond (eqb (s .kind) 5) (h .fromPci .address) z) in
-      rw a (record { code = omega arith; address = where-to; value = z; enables = omega arith; changed = z })
+      rw a (record { code = refl; address = where-to; value = z; enables = omega arith; changed = z })
   by-code false false p q =
-      let c : o .answer .code ≤ 14 = omega (arith, at-most-13 st start memory s) in
+      let c : isOneOf answerCodes (o .answer .code) ≡ true = each-code (isOneOf answerCodes) st start memory s refl in
       rw (ap (λ (t : Outcome). t .answer) (refused st start memory s p q)) (record { code = c; address = z; value = z; enables = omega arith; changed = z })
 
 answer-fits : (st : State) (start : ℕ) (memory : List ℕ) (s : Step) → StateFits st → WordsFit memory → AnswerFits (stepOf st start memory s .answer)
@@ -323,4 +323,4 @@ run-fits st start memory (s ∷ ss) h m v =
 pub given-fits : GivenFits
 unfolding notAFrame answered
 given-fits _ (toStep st start memory s h m v) = answer-fits st start memory s h m
-given-fits _ (toNoFrame st) = record { code = omega arith; address = omega arith; value = omega arith; enables = omega arith; changed = omega arith }
+given-fits _ (toNoFrame st) = record { code = refl; address = omega arith; value = omega arith; enables = omega arith; changed = omega arith }

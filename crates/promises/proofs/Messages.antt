@@ -26,7 +26,7 @@ use Rattle.laws.proofs.Bits.{bit-raised, bit-low, bit-xor, bit-zero, by-bits, x
 use Rattle.laws.proofs.Marks.{fillsByte, takesByte, change-at}
 use Rattle.promises.specs.Account.{write, read, clear, none, isDone, isKind, isAt, ownerWrites, otherReads, clearsBytes, touch, Every}
 use Rattle.promises.specs.Events.{flagOf, enableOf, chosenOf, tellingKind, isReadKind, isMailEvent, ownKind}
-use Rattle.promises.specs.Readings.{ChangedRule}
+use Rattle.promises.specs.Readings.{isAccessKind, ChangedRule}
 use Rattle.promises.specs.Messages.{ChangedWay, tells, leavesInterrupts, DriverCounts, takesBack, OneMessage}
 use Rattle.promises.proofs.MailAccount.{touched, mark-event}
 use Rattle.promises.proofs.Events.{change-read, change-write, chosen-lt, chosen-half, refused-interrupts, event-rule}
@@ -34,6 +34,14 @@ use Rattle.promises.proofs.Registers.{register-rule}
 use Rattle.promises.proofs.Answers.{changed-is}
 
 -- ---- the changed marks of an answer
+
+-- a read or a write is no reset
+no-reset : (k : ℕ) → isAccessKind k ≡ true → eqb k 6 ≡ false
+no-reset k e = by (eqb k 6) refl
+  where
+    by : (b : Bool) → eqb k 6 ≡ b → b ≡ false
+    by true q = absurd (false≢true (sym (ap isAccessKind (eqb-true k 6 q)) ∙ e))
+    by false q = refl
 
 module _ (st : State) (start : ℕ) (memory : List ℕ) (s : Step) where
   abbrev x : Access
@@ -48,14 +56,14 @@ module _ (st : State) (start : ℕ) (memory : List ℕ) (s : Step) where
   elsewhere e = simp (e, and-false)
 
   -- a done access below offset 20 is no clear and no reset
-  marks-turned : (word : ℕ) → s .kind < 4 → s .offset < 0x20 → stateAfter st x 0 word .marks ≡ bitXor (st .marks) (changes x (st .marks))
+  marks-turned : (word : ℕ) → eqb (s .kind) 6 ≡ false → s .offset < 0x20 → stateAfter st x 0 word .marks ≡ bitXor (st .marks) (changes x (st .marks))
   unfolding stateAfter movedState settled doneState marksAfter
-  marks-turned word k h = rw (named (s .kind) .reset, ne-eqb (s .kind) 6 (λ q. omega arith)) (simp (ne-eqb (s .offset) 0x3C (λ q. omega arith), and-false))
+  marks-turned word k h = rw (named (s .kind) .reset, k) (simp (ne-eqb (s .offset) 0x3C (λ q. omega arith), and-false))
 
-  by-place : (word : ℕ) (a b : Bool) → ltb (s .kind) 4 ≡ a → ltb (s .offset) 0x20 ≡ b
+  by-place : (word : ℕ) (a b : Bool) → isAccessKind (s .kind) ≡ a → ltb (s .offset) 0x20 ≡ b
       → cond a (changes x (st .marks)) 0 ≡ cond (a && b) (bitXor (st .marks) (stateAfter st x 0 word .marks)) 0
   by-place word true true e f =
-      sym (ap (bitXor (st .marks)) (marks-turned word (ltb-true (s .kind) 4 e) (ltb-true (s .offset) 0x20 f)) ∙ xor-twice (st .marks) (changes x (st .marks)))
+      sym (ap (bitXor (st .marks)) (marks-turned word (no-reset (s .kind) e) (ltb-true (s .offset) 0x20 f)) ∙ xor-twice (st .marks) (changes x (st .marks)))
   by-place word true false e f = elsewhere f
   by-place word false b e f = refl
 
@@ -67,9 +75,9 @@ changed-rule st start memory s = changed-is st start memory s ∙ by (eqb c 0) r
     c = codeOf st start (length memory) (accessOf s)
 
     by : (b : Bool) → eqb c 0 ≡ b
-        → cond (b && ltb (s .kind) 4) (changes (accessOf s) (st .marks)) 0
-        ≡ cond (b && (ltb (s .kind) 4 && ltb (s .offset) 0x20)) (bitXor (st .marks) (stateAfter st (accessOf s) c (replyOf st start memory (accessOf s) c .value) .marks)) 0
-    by true e = rw (eqb-true c 0 e) (by-place st start memory s _ (ltb (s .kind) 4) (ltb (s .offset) 0x20) refl refl)
+        → cond (b && isAccessKind (s .kind)) (changes (accessOf s) (st .marks)) 0
+        ≡ cond (b && (isAccessKind (s .kind) && ltb (s .offset) 0x20)) (bitXor (st .marks) (stateAfter st (accessOf s) c (replyOf st start memory (accessOf s) c .value) .marks)) 0
+    by true e = rw (eqb-true c 0 e) (by-place st start memory s _ (isAccessKind (s .kind)) (ltb (s .offset) 0x20) refl refl)
     by false e = refl
 
 -- ---- which way they changed
@@ -114,8 +122,8 @@ turned-to false false e = e
 pub changed-way : ChangedWay
 changed-way k h st start memory s e =
     let o = stepOf st start memory s in
-    let was = way (s .kind) k (s .offset) (s .enables) (s .value) (st .marks) (there (eqb (codeOf st start (length memory) (accessOf s)) 0 && ltb (s .kind) 4) _ k (sym (ap (λ w. bit w k) (changed-is st start memory s)) ∙ e)) in
-    let differ = there (eqb (o .answer .code) 0 && (ltb (s .kind) 4 && ltb (s .offset) 0x20)) (bitXor (st .marks) (o .state .marks)) k (sym (ap (λ w. bit w k) (changed-rule st start memory s)) ∙ e) in
+    let was = way (s .kind) k (s .offset) (s .enables) (s .value) (st .marks) (there (eqb (codeOf st start (length memory) (accessOf s)) 0 && isAccessKind (s .kind)) _ k (sym (ap (λ w. bit w k) (changed-is st start memory s)) ∙ e)) in
+    let differ = there (eqb (o .answer .code) 0 && (isAccessKind (s .kind) && ltb (s .offset) 0x20)) (bitXor (st .marks) (o .state .marks)) k (sym (ap (λ w. bit w k) (changed-rule st start memory s)) ∙ e) in
     (was, turned-to (isReadKind (s .kind)) (bit (o .state .marks) k) (rw was at (sym (bit-xor (st .marks) (o .state .marks) k) ∙ differ)))
 
 -- ---- one message, one event
@@ -197,11 +205,11 @@ told-change pci false i o e v marks = change-write card o e v marks (chosenOf fa
 told-change addon true i o e v marks = change-write host o e v marks (chosenOf true i) (chosen-lt true i) ∙ rw (chosen-half true i)
 told-change addon false i o e v marks = change-read host o e v marks (chosenOf false i) (chosen-lt false i) ∙ rw (chosen-half false i)
 
-low-kind : (side : Side) (outgoing : Bool) → ltb (tellingKind side outgoing) 4 ≡ true
-low-kind pci true = refl
-low-kind pci false = refl
-low-kind addon true = refl
-low-kind addon false = refl
+access-kind : (side : Side) (outgoing : Bool) → isAccessKind (tellingKind side outgoing) ≡ true
+access-kind pci true = refl
+access-kind pci false = refl
+access-kind addon true = refl
+access-kind addon false = refl
 
 -- a flag that nothing lowers
 not-lowered : (d r w p q b raises : Bool) → not (d && (r || w)) ≡ true → (b && not (d && (r || w && p && q)) || raises) ≡ (b || raises)
@@ -238,9 +246,9 @@ module _ (side : Side) (st : State) (start : ℕ) (memory : List ℕ) (s : Step)
       same = eqb (s .offset) (k / 4 * 4) && bit (s .enables) (k % 4) && cond (isReadKind (tellingKind side outgoing)) (bit (st .marks) k) (not (bit (st .marks) k))
 
       by : (d c : Bool) → eqb number 0 ≡ d → eqb (s .kind) (tellingKind side outgoing) ≡ c
-          → (d && (c && (bit i (enableOf outgoing) && same))) ≡ (bit i (enableOf outgoing) && (c && bit (cond (d && ltb (s .kind) 4) (changes (accessOf s) (st .marks)) 0) k))
+          → (d && (c && (bit i (enableOf outgoing) && same))) ≡ (bit i (enableOf outgoing) && (c && bit (cond (d && isAccessKind (s .kind)) (changes (accessOf s) (st .marks)) 0) k))
       by true true e f =
-          rw (eqb-true (s .kind) (tellingKind side outgoing) f, low-kind side outgoing, told-change side outgoing i (s .offset) (s .enables) (s .value) (st .marks))
+          rw (eqb-true (s .kind) (tellingKind side outgoing) f, access-kind side outgoing, told-change side outgoing i (s .offset) (s .enables) (s .value) (st .marks))
       by true false e f = sym (and-false (bit i (enableOf outgoing)))
       by false true e f = sym (rw (bit-zero k) (and-false (bit i (enableOf outgoing))))
       by false false e f = sym (and-false (bit i (enableOf outgoing)))

@@ -34,7 +34,8 @@ kept-bits k h =
     record {
       address = agree 32 (bit addressKept) (λ j. leb 2 j) refl k h;
       count = agree 32 (bit countKept) (λ j. leb j 25) refl k h;
-      interrupts = agree 32 (bit interruptsKept) (λ j. leb j 4 || leb 8 j && leb j 12 || eqb j 14 || eqb j 15) refl k h;
+      intcsr = agree 32 (bit (interruptsKept pci)) (λ j. leb j 4 || leb 8 j && leb j 12 || eqb j 14 || eqb j 15) refl k h;
+      aint = agree 32 (bit (interruptsKept addon)) (λ j. leb j 4 || leb 8 j && leb j 12 || eqb j 14 || eqb j 15) refl k h;
       pciFlags = agree 32 (bit (flags pci)) (λ j. leb 16 j && leb j 21) refl k h;
       addonFlags = agree 32 (bit (flags addon)) (λ j. leb 16 j && leb j 19 || eqb j 21) refl k h;
       mcsr = agree 32 (bit mcsrKept) (λ j. leb 12 j && leb j 15 || leb 8 j && leb j 10) refl k h;
@@ -75,13 +76,13 @@ module _ (st : State) (form : isOutOfForm st ≡ false) where
   unkept : (k : ℕ) → bit mcsrKept k ≡ false → bit (st .mcsr) k ≡ false
   unkept k e = held-bits mcsrKept (st .mcsr) k mcsr-kept ∙ rw e (and-false (bit (st .mcsr) k))
 
-  held-are : (side : Side) (k : ℕ) → k < 32 → bit (interruptsHeld side) k ≡ (bit interruptsKept k || bit (flags side) k)
+  held-are : (side : Side) (k : ℕ) → k < 32 → bit (interruptsHeld side) k ≡ (bit (interruptsKept side) k || bit (flags side) k)
   unfolding bit
-  held-are pci k h = agree 32 (bit (interruptsHeld pci)) (λ j. bit interruptsKept j || bit (flags pci) j) refl k h
-  held-are addon k h = agree 32 (bit (interruptsHeld addon)) (λ j. bit interruptsKept j || bit (flags addon) j) refl k h
+  held-are pci k h = agree 32 (bit (interruptsHeld pci)) (λ j. bit (interruptsKept pci) j || bit (flags pci) j) refl k h
+  held-are addon k h = agree 32 (bit (interruptsHeld addon)) (λ j. bit (interruptsKept addon) j || bit (flags addon) j) refl k h
 
   interrupts-bits : (side : Side) (k : ℕ) → k < 32
-      → (let i = interrupts side st in bit (interruptsRead i) k ≡ (bit i k && (bit interruptsKept k || bit (flags side) k) || lineOf i && eqb k 23))
+      → (let i = interrupts side st in bit (interruptsRead i) k ≡ (bit i k && (bit (interruptsKept side) k || bit (flags side) k) || lineOf i && eqb k 23))
   unfolding interruptsRead
   interrupts-bits side k h =
       let r = interrupts side st in

@@ -24,13 +24,9 @@ abort-only : (st : State) → AbortOnly st (abortedState st)
 unfolding abortedState interruptsAborted
 abort-only st =
     record {
-      mail = refl;
-      marks = refl;
-      fromPci = refl;
-      fromAddon = refl;
       intcsr = λ k. bit-raised (st .intcsr) true 20 k;
-      mcsr = refl;
       aint = λ k. bit-raised (st .aint) true 21 k;
+      others = refl;
     }
 
 aborted-line : (st : State) → lineOf (abortedState st .intcsr) ≡ true

@@ -6,9 +6,9 @@ use native.Mathlib.Omega.{arith}
 use lib.Dec.{eqb}
 use borrow.Author.Tests.{eqb-true, ne-eqb, lt-leb}
 use Rattle.machine.specs.Words.{bit, raised, written}
-use Rattle.machine.specs.Sides.{Side, pci, addon, host, card}
+use Rattle.machine.specs.Sides.{Side, pci, addon, host, card, partyOf}
 use Rattle.machine.specs.State.{State}
-use Rattle.machine.specs.Access.{Kind, kindOf, reading, writing, cycle, chipReset, unknown, isWrite}
+use Rattle.machine.specs.Access.{Kind, kindOf, reading, writing, cycle, chipReset, unknown, isWriteBy}
 use Rattle.machine.specs.Mcsr.{mcsrKept, mcsrAfter}
 use Rattle.machine.specs.Cycles.{addressAfter, countAfter}
 use Rattle.machine.specs.Interrupts.{interrupts, interruptsKept, flags, interruptsWritten, notified, interruptsAfter, lineOf}
@@ -39,14 +39,14 @@ module _ (k : ℕ) (h : k < 16) where
   unfolding notified
   notified-elsewhere i c = raised-elsewhere _ _ 17 (omega arith) ∙ raised-elsewhere i _ 16 (omega arith)
 
-  at-own : (side : Side) (r v n : ℕ) (b : Bool) → bit (cond b (interruptsWritten side r v n) r) k ≡ bit (cond b (written interruptsKept r v n) r) k
+  at-own : (side : Side) (r v n : ℕ) (b : Bool) → bit (cond b (interruptsWritten side r v n) r) k ≡ bit (cond b (written (interruptsKept side) r v n) r) k
   at-own side r v n true =
-      interrupts-written-bits side k (omega arith) r v n ∙ simp (no-flag side, and-false, or-false) (sym (bit-written k (omega arith) interruptsKept r v n))
+      interrupts-written-bits side k (omega arith) r v n ∙ simp (no-flag side, and-false, or-false) (sym (bit-written k (omega arith) (interruptsKept side) r v n))
   at-own side r v n false = refl
 
   by-kind : (side : Side) (kind : Kind) (st : State) (o n v : ℕ)
       → bit (interruptsAfter side kind st (record { kind = kind; offset = o; enables = n; value = v })) k
-      ≡ bit (cond (isWrite side kind && eqb o 0x38) (written interruptsKept (interrupts side st) v n) (interrupts side st)) k
+      ≡ bit (cond (isWriteBy (partyOf side) kind && eqb o 0x38) (written (interruptsKept side) (interrupts side st) v n) (interrupts side st)) k
   unfolding interruptsAfter
   by-kind pci (reading host) st o n v = refl
   by-kind pci (reading card) st o n v = notified-elsewhere (st .intcsr) _
@@ -75,11 +75,11 @@ register-rule st start memory s e r =
       intcsr =
           λ k h.
           by-kind k h pci (kindOf (s .kind)) st (s .offset) (s .enables) (s .value)
-          ∙ (λ i. bit (cond (n .pciWrite i && eqb (s .offset) 0x38) (written interruptsKept (st .intcsr) (s .value) (s .enables)) (st .intcsr)) k);
+          ∙ (λ i. bit (cond (n .pciWrite i && eqb (s .offset) 0x38) (written (interruptsKept pci) (st .intcsr) (s .value) (s .enables)) (st .intcsr)) k);
       aint =
           λ k h.
           by-kind k h addon (kindOf (s .kind)) st (s .offset) (s .enables) (s .value)
-          ∙ (λ i. bit (cond (n .addonWrite i && eqb (s .offset) 0x38) (written interruptsKept (st .aint) (s .value) (s .enables)) (st .aint)) k);
+          ∙ (λ i. bit (cond (n .addonWrite i && eqb (s .offset) 0x38) (written (interruptsKept addon) (st .aint) (s .value) (s .enables)) (st .aint)) k);
     })
   where
     n : Named (s .kind)
@@ -87,5 +87,5 @@ register-rule st start memory s e r =
 
     -- a register that PCI writes and a cycle steps, by the names of the kinds and by their numbers
     turn : {c d : Bool} → c ≡ d → (at : Bool) (a b old : ℕ)
-        → cond (isWrite pci (kindOf (s .kind)) && at) a (cond c b old) ≡ cond (eqb (s .kind) 1 && at) a (cond d b old)
+        → cond (isWriteBy host (kindOf (s .kind)) && at) a (cond c b old) ≡ cond (eqb (s .kind) 1 && at) a (cond d b old)
     turn f at a b old = λ i. cond (n .pciWrite i && at) a (cond (f i) b old)

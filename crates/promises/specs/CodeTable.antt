@@ -11,7 +11,7 @@ use Rattle.machine.specs.Words.{bit}
 use Rattle.machine.specs.State.{State, Lane}
 use Rattle.machine.specs.Code.{testOf}
 use Rattle.machine.specs.Step.{stepOf}
-use Rattle.promises.specs.Readings.{isOneOf, pciOffsets, addonOffsets, pciReadOnly, addonReadOnly}
+use Rattle.promises.specs.Readings.{isOneOf, byPci, byAddon, isAccessKind, pciOffsets, addonOffsets, pciReadOnly, addonReadOnly}
 use Rattle.machine.specs.declared.Step.{Step}
 
 -- ---- a table of codes, each with its test: the order of the table decides, and not the numbers
@@ -70,13 +70,6 @@ isStateWrong st =
 
 -- ---- the table
 
--- reads and writes of PCI (0, 1), and of the Add-On (2, 3)
-abbrev pub byPci : ℕ → Bool
-byPci kind = eqb kind 0 || eqb kind 1
-
-abbrev pub byAddon : ℕ → Bool
-byAddon kind = eqb kind 2 || eqb kind 3
-
 -- a kind of step at the FIFO port
 abbrev pub atPort : ℕ → Step → Bool
 atPort kind s = eqb (s .kind) kind && eqb (s .offset) 0x20
@@ -97,8 +90,8 @@ codeTable st start words s =
     ∷ (2, not (eqb (start % 4) 0) || ltb 16384 words)
     ∷ (3, ltb 6 (s .kind))
     ∷ (4, byPci (s .kind) && not (isOneOf pciOffsets (s .offset)) || byAddon (s .kind) && not (isOneOf addonOffsets (s .offset)))
-    ∷ (5, (byPci (s .kind) || byAddon (s .kind)) && ltb 15 (s .enables))
-    ∷ (6, (byPci (s .kind) || byAddon (s .kind)) && eqb (s .offset) 0x20 && not (eqb (s .enables) 15))
+    ∷ (5, isAccessKind (s .kind) && ltb 15 (s .enables))
+    ∷ (6, isAccessKind (s .kind) && eqb (s .offset) 0x20 && not (eqb (s .enables) 15))
     ∷ (7, eqb (s .kind) 1 && isOneOf pciReadOnly (s .offset) || eqb (s .kind) 3 && isOneOf addonReadOnly (s .offset))
     ∷ (8, atPort 1 s && leb 8 (length (read .words)) || atPort 2 s && eqb (length (read .words)) 0 || (atPort 3 s && leb 8 (length (write .words)) || atPort 0 s && eqb (length (write .words)) 0))
     ∷ (9, ofCycles s (not (bit (st .mcsr) 14)) (not (bit (st .mcsr) 10)))
@@ -124,14 +117,16 @@ abbrev pub FirstCode : Type 0
 FirstCode =
     (st : State) (start : ℕ) (memory : List ℕ) (s : Step) → First (stepOf st start memory s .answer .code) (codeTable st start (length memory) s)
 
--- `every-code`: the table has the codes 1 to 13, each once, in that order
-abbrev pub EveryCode : Type 0
-EveryCode =
-    (st : State) (start words : ℕ) (s : Step)
-    → codesIn (codeTable st start words s) ≡ 1 ∷ 2 ∷ 3 ∷ 4 ∷ 5 ∷ 6 ∷ 7 ∷ 8 ∷ 9 ∷ 10 ∷ 11 ∷ 12 ∷ 13 ∷ []
+-- the codes that answer a step: done, and the refusals in their order
+abbrev pub stepCodes : List ℕ
+stepCodes = 0 ∷ 1 ∷ 2 ∷ 3 ∷ 4 ∷ 5 ∷ 6 ∷ 7 ∷ 8 ∷ 9 ∷ 10 ∷ 11 ∷ 12 ∷ 13 ∷ []
 
--- `numbered`: the code is 0 or one of the table's
+-- `every-code`: the table has all of them but done, each once, in that order
+abbrev pub EveryCode : Type 0
+EveryCode = (st : State) (start words : ℕ) (s : Step) → 0 ∷ codesIn (codeTable st start words s) ≡ stepCodes
+
+-- `numbered`: the code is one of them
 abbrev pub Numbered : Type 0
 Numbered =
     (st : State) (start : ℕ) (memory : List ℕ) (s : Step)
-    → isOneOf (0 ∷ codesIn (codeTable st start (length memory) s)) (stepOf st start memory s .answer .code) ≡ true
+    → isOneOf stepCodes (stepOf st start memory s .answer .code) ≡ true

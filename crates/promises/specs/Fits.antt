@@ -1,12 +1,16 @@
 -- "32-bit data", registers and words: the machine's numbers have no bound, and here it is said when they are below 2^32. A controller's always are, and so
 -- is what a frame says.
-use Prim.Native.Nat.{ℕ, _≤_, _<_, _^_}
+use Prim.Native.Nat.{ℕ, _<_, _^_}
+use mathlib.Core.Path.{_≡_}
+use mathlib.Core.Bool.{true}
 use mathlib.Core.List.{List, [], _∷_}
 use Rattle.machine.specs.State.{Lane, State, resetState}
 use Rattle.machine.specs.Step.{Outcome, stepOf, notAFrame}
 use Rattle.machine.specs.Event.{Event}
 use Rattle.machine.specs.Run.{RunOutcome, run}
 use Rattle.promises.specs.Account.{Every}
+use Rattle.promises.specs.Readings.{isOneOf}
+use Rattle.promises.specs.CodeTable.{stepCodes}
 use Rattle.machine.specs.declared.Step.{Step}
 use Rattle.machine.specs.declared.Answer.{Answer}
 
@@ -33,9 +37,13 @@ pub record StateFits (st : State) : Type 0 where
   pub mcsr : st .mcsr < 2 ^ 32
   pub aint : st .aint < 2 ^ 32
 
+-- the codes of answers: those to a step, and 14 to a line that is no frame
+abbrev pub answerCodes : List ℕ
+answerCodes = 14 ∷ stepCodes
+
 -- Frames and the log: two digits hold the code of an answer, eight its address, eight its data, one its enables; its changed marks are bits of a register
 pub record AnswerFits (a : Answer) : Type 0 where
-  pub code : a .code ≤ 14
+  pub code : isOneOf answerCodes (a .code) ≡ true
   pub address : a .address < 2 ^ 32
   pub value : a .value < 2 ^ 32
   pub enables : a .enables < 16

@@ -41,7 +41,8 @@ WrittenBits =
 pub record KeptBits (k : ℕ) : Type 0 where
   pub address : bit addressKept k ≡ leb 2 k
   pub count : bit countKept k ≡ leb k 25
-  pub interrupts : bit interruptsKept k ≡ (leb k 4 || leb 8 k && leb k 12 || eqb k 14 || eqb k 15)
+  pub intcsr : bit (interruptsKept pci) k ≡ (leb k 4 || leb 8 k && leb k 12 || eqb k 14 || eqb k 15)
+  pub aint : bit (interruptsKept addon) k ≡ (leb k 4 || leb 8 k && leb k 12 || eqb k 14 || eqb k 15)
   pub pciFlags : bit (flags pci) k ≡ (leb 16 k && leb k 21)
   pub addonFlags : bit (flags addon) k ≡ (leb 16 k && leb k 19 || eqb k 21)
   pub mcsr : bit mcsrKept k ≡ (leb 12 k && leb k 15 || leb 8 k && leb k 10)
@@ -59,13 +60,13 @@ abbrev pub InterruptsWrittenBits : Type 0
 InterruptsWrittenBits =
     (side : Side) (k : ℕ) → k < 32 → (old new enables : ℕ)
     → bit (interruptsWritten side old new enables) k
-    ≡ (cond (bit enables (k / 8)) (bit new k) (bit old k) && bit interruptsKept k || bit old k && bit (flags side) k && not (bit new k && bit enables (k / 8)))
+    ≡ (cond (bit enables (k / 8)) (bit new k) (bit old k) && bit (interruptsKept side) k || bit old k && bit (flags side) k && not (bit new k && bit enables (k / 8)))
 
 -- `interrupts-read-bits`: either of a state in form reads the kept bits and its flags, bit 23 is the line, and other bits read zero
 abbrev pub InterruptsReadBits : Type 0
 InterruptsReadBits =
     (side : Side) (st : State) → isOutOfForm st ≡ false → (k : ℕ) → k < 32
-    → (let i = interrupts side st in bit (interruptsRead i) k ≡ (bit i k && (bit interruptsKept k || bit (flags side) k) || lineOf i && eqb k 23))
+    → (let i = interrupts side st in bit (interruptsRead i) k ≡ (bit i k && (bit (interruptsKept side) k || bit (flags side) k) || lineOf i && eqb k 23))
 
 -- `mcsr-read-bits`: MCSR of a state in form reads the status in bits 7 to 0, and the kept bits; other bits read zero
 pub record McsrStatus (st : State) : Type 0 where
@@ -101,6 +102,17 @@ AgcstsReadBits = (st : State) → AgcstsStatus st
 abbrev pub isOneOf : List ℕ → ℕ → Bool
 isOneOf [] n = false
 isOneOf (x ∷ xs) n = eqb n x || isOneOf xs n
+
+-- reads and writes of PCI (0, 1), and of the Add-On (2, 3)
+abbrev pub byPci : ℕ → Bool
+byPci kind = eqb kind 0 || eqb kind 1
+
+abbrev pub byAddon : ℕ → Bool
+byAddon kind = eqb kind 2 || eqb kind 3
+
+-- any of these
+abbrev pub isAccessKind : ℕ → Bool
+isAccessKind kind = byPci kind || byAddon kind
 
 -- the offsets of PCI's table, and of the Add-On's
 abbrev pub pciOffsets : List ℕ
@@ -226,8 +238,8 @@ pub record RegistersThen (s : Step) (st after : State) : Type 0 where
   pub readAddress : after .fromPci .address ≡ addressThen 0x2C 5 s (st .fromPci .address)
   pub readCount : after .fromPci .count ≡ countThen 0x30 5 s (st .fromPci .count)
   pub mcsr : after .mcsr ≡ unlessWritten 1 0x3C mcsrKept s (st .mcsr) (st .mcsr)
-  pub intcsr : (k : ℕ) → k < 16 → bit (after .intcsr) k ≡ bit (unlessWritten 1 0x38 interruptsKept s (st .intcsr) (st .intcsr)) k
-  pub aint : (k : ℕ) → k < 16 → bit (after .aint) k ≡ bit (unlessWritten 3 0x38 interruptsKept s (st .aint) (st .aint)) k
+  pub intcsr : (k : ℕ) → k < 16 → bit (after .intcsr) k ≡ bit (unlessWritten 1 0x38 (interruptsKept pci) s (st .intcsr) (st .intcsr)) k
+  pub aint : (k : ℕ) → k < 16 → bit (after .aint) k ≡ bit (unlessWritten 3 0x38 (interruptsKept addon) s (st .aint) (st .aint)) k
 
 abbrev pub RegisterRule : Type 0
 RegisterRule =
@@ -241,7 +253,7 @@ abbrev pub ChangedRule : Type 0
 ChangedRule =
     (st : State) (start : ℕ) (memory : List ℕ) (s : Step)
     → (let o = stepOf st start memory s in
-    o .answer .changed ≡ cond (eqb (o .answer .code) 0 && (ltb (s .kind) 4 && ltb (s .offset) 0x20)) (bitXor (st .marks) (o .state .marks)) 0)
+    o .answer .changed ≡ cond (eqb (o .answer .code) 0 && (isAccessKind (s .kind) && ltb (s .offset) 0x20)) (bitXor (st .marks) (o .state .marks)) 0)
 
 -- INTCSR and MCSR, Ask 3: an interrupt line by the bits of its register, four flags each with its enable, and two that need none
 abbrev pub isLineHigh : ℕ → Bool

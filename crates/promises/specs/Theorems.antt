@@ -7,8 +7,8 @@ use lib.Dec.{eqb}
 use lib.ListN.{length, getD}
 use Rattle.machine.specs.Words.{bit}
 use Rattle.machine.specs.Sides.{Side}
-use Rattle.machine.specs.State.{State, held, resetState}
-use Rattle.machine.specs.Interrupts.{lineOf}
+use Rattle.machine.specs.State.{State, held, withRight, withLanes, withInterrupts, resetState}
+use Rattle.machine.specs.Interrupts.{interrupts, lineOf}
 use Rattle.machine.specs.Code.{isOutOfForm}
 use Rattle.machine.specs.Step.{stepOf, notAFrame}
 use Rattle.machine.specs.Event.{Event, loggedAnswers}
@@ -34,15 +34,11 @@ Refused =
 abbrev pub NotAFrameAnswer : Type 0
 NotAFrameAnswer = (st : State) → notAFrame st ≡ refusal 14 st
 
--- all but the interrupt registers and the rights is as it was; INTCSR has bit 20 besides, AINT bit 21; neither lane has a right (Ask 5)
+-- INTCSR has bit 20 besides, AINT bit 21; neither lane has a right (Ask 5), and all else is as it was
 pub record AbortOnly (st after : State) : Type 0 where
-  pub mail : after .mail ≡ st .mail
-  pub marks : after .marks ≡ st .marks
-  pub fromPci : after .fromPci ≡ record { words = st .fromPci .words; address = st .fromPci .address; count = st .fromPci .count; right = false }
-  pub fromAddon : after .fromAddon ≡ record { words = st .fromAddon .words; address = st .fromAddon .address; count = st .fromAddon .count; right = false }
   pub intcsr : (k : ℕ) → bit (after .intcsr) k ≡ (bit (st .intcsr) k || eqb k 20)
-  pub mcsr : after .mcsr ≡ st .mcsr
   pub aint : (k : ℕ) → bit (after .aint) k ≡ (bit (st .aint) k || eqb k 21)
+  pub others : after ≡ withInterrupts (λ side i. interrupts side after) (withLanes (λ side l. withRight false l) st)
 
 -- the address of a cycle: the write address for kind 4, the read address for kind 5
 abbrev pub cycleAddress : State → Step → ℕ

@@ -4,30 +4,11 @@ use mathlib.Core.Path.{_≡_, refl}
 use mathlib.Core.Bool.{Bool, true, false, cond, not, and-false, false≢true, true≢false}
 use native.Mathlib.Omega.{arith}
 use borrow.Author.Tests.{ne-eqb}
-use Rattle.machine.specs.Sides.{pci, addon, host, card, sameParty}
+use Rattle.machine.specs.Sides.{pci, addon, sameSide, host, card, sideOf}
 use Rattle.machine.specs.State.{State}
 use Rattle.machine.specs.Access.{Access, Kind, reading, writing, cycle, chipReset, unknown, kindOf, isAccess}
 use Rattle.machine.specs.Code.{isUnknownOffset, hasBadEnables, isPartFifoAccess, isReadOnlyWrite, isFullOrEmpty, isTransferOff, isCountZero, isAbortStanding, isNotReady, isNoMemory, cycleTests, firstOf}
 use Rattle.refusal.specs.Codes.{accessCode}
-
--- the kinds below 4 are the reads and writes
-pub access : (k : ℕ) → k ≤ 3 → isAccess (kindOf k) ≡ true
-access zero h = refl
-access (suc zero) h = refl
-access (suc (suc zero)) h = refl
-access (suc (suc (suc zero))) h = refl
-access (suc (suc (suc (suc n)))) h = absurd (omega arith)
-
--- no other kind is one
-pub no-access : (k : ℕ) → 3 < k → isAccess (kindOf k) ≡ false
-no-access zero h = absurd (omega arith)
-no-access (suc zero) h = absurd (omega arith)
-no-access (suc (suc zero)) h = absurd (omega arith)
-no-access (suc (suc (suc zero))) h = absurd (omega arith)
-no-access (suc (suc (suc (suc zero)))) h = refl
-no-access (suc (suc (suc (suc (suc zero))))) h = refl
-no-access (suc (suc (suc (suc (suc (suc zero)))))) h = refl
-no-access (suc (suc (suc (suc (suc (suc (suc n))))))) h = refl
 
 -- the codes of reads and writes apply to no other kind
 pub other-kind : (st : State) (x : Access) → isAccess (x .kind) ≡ false → accessCode st x ≡ 0
@@ -64,10 +45,10 @@ unfolding isFullOrEmpty
 elsewhere st x h = simp (ne-eqb _ _ h, and-false)
 
 -- who owns a mailbox
-pub owned-by-host : (b : Bool) → sameParty (cond b host card) host ≡ b
-owned-by-host true = refl
-owned-by-host false = refl
+pub owned-on-pci : (b : Bool) → sameSide pci (sideOf (cond b host card)) ≡ b
+owned-on-pci true = refl
+owned-on-pci false = refl
 
-pub owned-by-card : (b : Bool) → sameParty (cond b host card) card ≡ not b
-owned-by-card true = refl
-owned-by-card false = refl
+pub owned-on-addon : (b : Bool) → sameSide addon (sideOf (cond b host card)) ≡ not b
+owned-on-addon true = refl
+owned-on-addon false = refl

@@ -2,11 +2,11 @@
 ghost use mathlib.Core.Path.{_≡_};
 ghost use mathlib.Core.Bool.{not, _&&_, _||_};
 ghost use mathlib.Core.List.{List};
-ghost use Prim.Native.Nat.{ℕ, _%_, _<_};
+ghost use Prim.Native.Nat.{ℕ, _%_};
 ghost use lib.Dec.{eqb, ltb};
 ghost use Rattle.machine.specs.Sides as sides;
 ghost use Rattle.machine.specs.State.{lane};
-ghost use Rattle.machine.specs.Access.{accessOf};
+ghost use Rattle.machine.specs.Access.{accessOf, kindOf, isAccess};
 ghost use Rattle.machine.specs.Offsets.{inTable, isReadOnly};
 ghost use Rattle.machine.specs.Rights.{ended};
 ghost use Rattle.machine.specs.Code.{isUnknownOffset, isReadOnlyWrite, isFullOrEmpty};
@@ -44,9 +44,9 @@ fn is_right_wrong(b: Bank) -> bool
 pub fn form(b: Bank, start: u32, words: usize) -> u32
     ensures { λ r. ⌜ ((mail pci addon : List ℕ) → r ≡ formCode (stateIn b mail pci addon) start words) ⌝ }
 {
-    let i = word::is_only(interrupts::KEPT | interrupts::INTCSR_FLAGS, b.intcsr);
+    let i = word::is_only(interrupts::INTCSR_KEPT | interrupts::INTCSR_FLAGS, b.intcsr);
     let m = word::is_only(mcsr::KEPT, b.mcsr);
-    let n = word::is_only(interrupts::KEPT | interrupts::AINT_FLAGS, b.aint);
+    let n = word::is_only(interrupts::AINT_KEPT | interrupts::AINT_FLAGS, b.aint);
     let lanes = are_lanes_out_of_form(b);
     if lanes | !i | !m | !n {
         return codes::STATE_OUT_OF_FORM;
@@ -116,11 +116,21 @@ fn is_full_or_empty(b: Bank, s: Step) -> bool
             | (s.kind == kinds::PCI_READ) & port & fifo::is_empty(b.addon_fill))
 }
 
+// Whether a kind is a read or a write.
+fn is_access(kind: u32) -> bool
+    ensures { λ r. ⌜ r ≡ isAccess (kindOf kind) ⌝ }
+{
+    (kind == kinds::PCI_READ)
+        | (kind == kinds::PCI_WRITE)
+        | (kind == kinds::ADDON_READ)
+        | (kind == kinds::ADDON_WRITE)
+}
+
 // Codes 4 to 8, or done, of a read or a write: 6 and 8 are of the FIFO port alone, 7 is of others. Of any other kind done.
 pub fn access_code(b: Bank, s: Step) -> u32
-    ensures { λ r. ⌜ (r < 13) × ((mail pci addon : List ℕ) → r ≡ accessCode (stateIn b mail pci addon) (accessOf s)) ⌝ }
+    ensures { λ r. ⌜ (r ≡ 13 → ⊥) × ((mail pci addon : List ℕ) → r ≡ accessCode (stateIn b mail pci addon) (accessOf s)) ⌝ }
 {
-    if kinds::ADDON_WRITE < s.kind {
+    if !is_access(s.kind) {
         return codes::DONE;
     }
     if is_unknown_offset(s) {
@@ -146,7 +156,7 @@ pub fn access_code(b: Bank, s: Step) -> u32
 
 // Codes 9 to 13, or done, of a write cycle.
 pub fn write_cycle_code(b: Bank, start: u32, words: usize) -> u32
-    ensures { λ r. ⌜ (r < 14) × ((mail pci addon : List ℕ) → r ≡ cycleCode sides.addon (stateIn b mail pci addon) start words) ⌝ }
+    ensures { λ r. ⌜ ((mail pci addon : List ℕ) → r ≡ cycleCode sides.addon (stateIn b mail pci addon) start words) ⌝ }
 {
     if !word::bit(b.mcsr, mcsr::WRITE_ENABLE) {
         return codes::TRANSFER_OFF;
@@ -169,7 +179,7 @@ pub fn write_cycle_code(b: Bank, start: u32, words: usize) -> u32
 
 // Codes 9 to 13, or done, of a read cycle.
 pub fn read_cycle_code(b: Bank, start: u32, words: usize) -> u32
-    ensures { λ r. ⌜ (r < 14) × ((mail pci addon : List ℕ) → r ≡ cycleCode sides.pci (stateIn b mail pci addon) start words) ⌝ }
+    ensures { λ r. ⌜ ((mail pci addon : List ℕ) → r ≡ cycleCode sides.pci (stateIn b mail pci addon) start words) ⌝ }
 {
     if !word::bit(b.mcsr, mcsr::READ_ENABLE) {
         return codes::TRANSFER_OFF;

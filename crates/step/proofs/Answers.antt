@@ -24,7 +24,7 @@ use Rattle.bank.specs.Words.{part, mailIn, pciIn, addonIn, bankBy, bankIn, stat
 use Rattle.bank.proofs.Words.{Stand, stand-state, stand-rights, stand-mail}
 use Rattle.refusal.specs.Codes.{accessCode, cycleCode, cycleBy}
 use Rattle.step.specs.Parts.{settledOutcome, outcomeIn, Kept, Done, Accessed, Cycled}
-use Rattle.step.proofs.Laws.{refused, done-step, below-13}
+use Rattle.step.proofs.Laws.{refused, done-step}
 
 pub kept-same : (l : List ℕ) (a : Answer) → Kept l a l
 kept-same l a = record { rights = λ h. h; refused = λ e f. refl }
@@ -37,7 +37,7 @@ at-words l b e = λ i. stateIn (e i) (mailIn l) (pciIn l) (addonIn l)
 pub part-word : (a m k : ℕ) (l : List ℕ) → k < m → getD (part a m l) k 0 ≡ getD l (a + k) 0
 part-word a m k l h = getD-take m (drop a l) k 0 h ∙ getD-drop a l k 0
 
-module _ (l : List ℕ) (s : Step) (b : Bank) (code : ℕ) (e : b ≡ bankIn l) (is : (code < 13) × ((mail places behind : List ℕ) → code ≡ accessCode (stateIn b mail places behind) (accessOf s))) where
+module _ (l : List ℕ) (s : Step) (b : Bank) (code : ℕ) (e : b ≡ bankIn l) (is : (code ≡ 13 → ⊥) × ((mail places behind : List ℕ) → code ≡ accessCode (stateIn b mail places behind) (accessOf s))) where
   pub coded : code ≡ accessCode (stateOfWords l) (accessOf s)
   coded = is .1 (mailIn l) (pciIn l) (addonIn l) ∙ (λ i. accessCode (at-words l b e i) (accessOf s))
 
@@ -116,14 +116,14 @@ module _ (side : Side) (l : List ℕ) (start words : ℕ) (b : Bank) (code : ℕ
   cycle-alone zero = sym (is [] [] [] ∙ (λ i. cycleCode side (stateIn (e i) [] [] []) start words)) ∙ zero
 
 pub cycle-refused : (side : Side) (l : List ℕ) (start : ℕ) (memory : List ℕ) (b : Bank) (code : ℕ) → b ≡ bankIn l
-    → ((code < 14) × ((mail places behind : List ℕ) → code ≡ cycleCode side (stateIn b mail places behind) start (length memory)))
+    → ((mail places behind : List ℕ) → code ≡ cycleCode side (stateIn b mail places behind) start (length memory))
     → (a : Answer) → (code ≡ 0 → ⊥) → (code ≡ 13 → ⊥) → ((mail places behind : List ℕ) → a ≡ answered (stateIn b mail places behind) code nothing) → Cycled side l start memory a l memory
 cycle-refused side l start memory b code e is a other abort r =
     let told : a ≡ answered (stateOfWords l) code nothing = r (mailIn l) (pciIn l) (addonIn l) ∙ (λ i. answered (at-words l b e i) code nothing) in (
       λ offset enables value.
           (λ i. settledOutcome (outcomeIn l memory (told i)))
-          ∙ refused (stateOfWords l) start memory (cycleBy side offset enables value) code other (below-13 code (is .0) abort)
-          ∙ (λ i. respond (stateOfWords l) start memory (cycleBy side offset enables value) (cycle-coded side l start (length memory) b code e (is .1) i)),
+          ∙ refused (stateOfWords l) start memory (cycleBy side offset enables value) code other abort
+          ∙ (λ i. respond (stateOfWords l) start memory (cycleBy side offset enables value) (cycle-coded side l start (length memory) b code e is i)),
       kept-same l a,
     )
 

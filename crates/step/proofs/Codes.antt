@@ -1,16 +1,16 @@
 -- The code of a step in parts: the codes of form first, then those of its kind.
 use Prim.Native.Nat.{ℕ, _<_}
 use mathlib.Core.Path.{_≡_, refl, sym, ap, _∙_}
-use mathlib.Core.Bool.{Bool, true, false, cond, not, _&&_, true≢false}
+use mathlib.Core.Bool.{Bool, true, false, cond, not, _&&_, true≢false, false≢true}
 use mathlib.Core.List.{List}
 use native.Mathlib.Decide.{ℕ-discrete}
 use native.Mathlib.Omega.{arith}
 use lib.Dec.{eqb}
 use lib.ListN.{length, drop}
-use borrow.Author.Tests.{lt-ltb, le-ltb}
+use borrow.Author.Tests.{lt-ltb}
 use Rattle.machine.specs.Sides.{Side, pci, addon}
 use Rattle.machine.specs.State.{State, resetState}
-use Rattle.machine.specs.Access.{Access, accessOf}
+use Rattle.machine.specs.Access.{Access, Kind, reading, writing, cycle, chipReset, unknown, kindOf, accessOf, isAccess, isUnknown}
 use Rattle.machine.specs.Window.{isWindowOutOfForm}
 use Rattle.machine.specs.Code.{isOutOfForm, isUnknownOffset, hasBadEnables, isPartFifoAccess, isReadOnlyWrite, isFullOrEmpty, isTransferOff, isCountZero, isAbortStanding, isNotReady, isNoMemory, tests, firstOf, codeOf}
 use Rattle.machine.specs.Step.{Outcome, nothing, doneReply, replyOf, answered, stateAfter, memoryAfter, respond, stepOf}
@@ -18,7 +18,7 @@ use Rattle.machine.specs.declared.Step.{Step}
 use Rattle.laws.proofs.KindNumbers.{named}
 use Rattle.laws.proofs.Form.{form-kept}
 use Rattle.refusal.specs.Codes.{formCode, accessCode, cycleCode, cycleBy}
-use Rattle.refusal.proofs.Tables.{access, no-cycle}
+use Rattle.refusal.proofs.Tables.{no-cycle}
 use Rattle.step.specs.Parts.{toldStep, ToldRightly}
 use Rattle.step.proofs.Laws.{refusal}
 
@@ -28,10 +28,15 @@ abbrev rest : State → ℕ → ℕ → Access → ℕ
 rest st start words x = firstOf (drop 2 (tests st start words x))
 
 module _ (st : State) (start words : ℕ) where
-  pub code-of-access : (s : Step) → s .kind < 4 → rest st start words (accessOf s) ≡ accessCode st (accessOf s)
-  code-of-access s h =
-      let known = named (s .kind) .unknown ∙ le-ltb 6 (s .kind) (omega arith) in
-      rw known (simp (no-cycle st start words (accessOf s) (access (s .kind) (omega arith))))
+  known : (k : Kind) → isAccess k ≡ true → isUnknown k ≡ false
+  known (reading by) h = refl
+  known (writing by) h = refl
+  known (cycle side) h = refl
+  known chipReset h = refl
+  known unknown h = absurd (false≢true h)
+
+  pub code-of-access : (s : Step) → isAccess (kindOf (s .kind)) ≡ true → rest st start words (accessOf s) ≡ accessCode st (accessOf s)
+  code-of-access s h = rw (known (kindOf (s .kind)) h) (simp (no-cycle st start words (accessOf s) h))
 
   pub code-of-cycle : (side : Side) (offset enables value : ℕ) → rest st start words (cycleBy side offset enables value) ≡ cycleCode side st start words
   unfolding isUnknownOffset hasBadEnables isPartFifoAccess isReadOnlyWrite isFullOrEmpty isTransferOff isCountZero isAbortStanding isNotReady isNoMemory
@@ -52,8 +57,8 @@ first o w past = cond o 1 (cond w 2 past)
 
 told : (st : State) (start : ℕ) (memory : List ℕ) (x : Access) (past : ℕ) (o w : Bool)
     → cond (eqb (first o w 0) 0) (respond st start memory x past) (record { state = st; memory = memory; answer = answered st (first o w 0) nothing }) ≡ respond st start memory x (first o w past)
-told st start memory x past true w = refusal st start memory x 1 (λ e. omega arith) (omega arith)
-told st start memory x past false true = refusal st start memory x 2 (λ e. omega arith) (omega arith)
+told st start memory x past true w = refusal st start memory x 1 (λ e. omega arith) (λ e. omega arith)
+told st start memory x past false true = refusal st start memory x 2 (λ e. omega arith) (λ e. omega arith)
 told st start memory x past false false = refl
 
 pub told-rightly : ToldRightly
@@ -97,7 +102,7 @@ module _ (st : State) (start : ℕ) (memory : List ℕ) (s : Step) where
   stays (yes e) = rw (form-kept st start memory s (in-form e), in-form e)
   stays (no e) =
       let c = out-of-form e in
-      let same = refusal st start memory (accessOf s) (codeOf st start words (accessOf s)) (λ z. e (sym (c .0) ∙ z)) (omega (arith, c .0, c .1)) in
+      let same = refusal st start memory (accessOf s) (codeOf st start words (accessOf s)) (λ z. e (sym (c .0) ∙ z)) (λ z. omega (arith, c .0, c .1)) in
       ap (λ (o : Outcome). formCode (o .state) start words) (sym same)
 
   pub form-stays : formCode (stepOf st start memory s .state) start words ≡ formCode st start words

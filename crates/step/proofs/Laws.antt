@@ -12,7 +12,7 @@ use Rattle.laws.proofs.Bits.{bit-zero}
 use Rattle.laws.proofs.Done.{room-to-write}
 use borrow.Author.Tests.{eqb-true, eqb-false, lt-ltb, ltb-true, leb-true, ne-eqb, not-false}
 use Rattle.machine.specs.Words.{raised, written}
-use Rattle.machine.specs.Sides.{Side, pci, addon, other, Party}
+use Rattle.machine.specs.Sides.{Side, pci, addon, other, Party, partyOf}
 use Rattle.machine.specs.State.{State, held, resetState}
 use Rattle.machine.specs.Offsets.{isMailbox, fifoPort, inTable}
 use Rattle.machine.specs.Access.{Access, writing, isReset, cycles, accessOf, reads, writes}
@@ -34,10 +34,10 @@ use Rattle.bank.specs.Words.{bankIn, stateOfWords}
 use Rattle.machine.specs.Step.{Reply, nothing, showing, register, readValue, doneReply, movedState, doneState, replyOf, answered, stateAfter, memoryAfter, respond}
 
 -- a refusal: the state and the memory stay
-pub refusal : (st : State) (start : ℕ) (memory : List ℕ) (x : Access) (code : ℕ) → (code ≡ 0 → ⊥) → code < 13
+pub refusal : (st : State) (start : ℕ) (memory : List ℕ) (x : Access) (code : ℕ) → (code ≡ 0 → ⊥) → (code ≡ 13 → ⊥)
     → record { state = st; memory = memory; answer = answered st code nothing } ≡ respond st start memory x code
 unfolding respond replyOf stateAfter memoryAfter
-refusal st start memory x code other h = simp (ne-eqb code 0 other, ne-eqb code 13 (λ e. omega arith))
+refusal st start memory x code other h = simp (ne-eqb code 0 other, ne-eqb code 13 h)
 
 -- what is not done has no right to end
 pub not-done : (st : State) (memory : List ℕ) (code : ℕ) (reply : Reply) → (code ≡ 0 → ⊥)
@@ -45,7 +45,7 @@ pub not-done : (st : State) (memory : List ℕ) (code : ℕ) (reply : Reply) →
 unfolding answered settledOutcome
 not-done st memory code reply other = rw (ne-eqb code 0 other)
 
-pub refused : (st : State) (start : ℕ) (memory : List ℕ) (x : Access) (code : ℕ) → (code ≡ 0 → ⊥) → code < 13
+pub refused : (st : State) (start : ℕ) (memory : List ℕ) (x : Access) (code : ℕ) → (code ≡ 0 → ⊥) → (code ≡ 13 → ⊥)
     → settledOutcome (record { state = st; memory = memory; answer = answered st code nothing }) ≡ respond st start memory x code
 refused st start memory x code other h = not-done st memory code nothing other ∙ refusal st start memory x code other h
 
@@ -76,10 +76,10 @@ settled-reset memory = refl
 port-free : (st : State) (x : Access) → accessCode st x ≡ 0 → isFullOrEmpty st x ≡ false
 port-free st x e = none-applies (drop 3 (stepTests st 0 0 x)) refl e 8
 
-word-to-read : (side : Side) (st : State) (x : Access) → isFullOrEmpty st x ≡ false → reads (other side) fifoPort x ≡ true → 0 < length (held side st)
+word-to-read : (side : Side) (st : State) (x : Access) → isFullOrEmpty st x ≡ false → reads (partyOf (other side)) fifoPort x ≡ true → 0 < length (held side st)
 unfolding isFullOrEmpty
 word-to-read side st x e r =
-    let some = eqb-false (length (held side st)) 0 (and-at (reads (other side) fifoPort x) _ r (or-right (writes side fifoPort x && isFull (held side st)) _ (neither (λ s. isPortStuck s st x) e side))) in
+    let some = eqb-false (length (held side st)) 0 (and-at (reads (partyOf (other side)) fifoPort x) _ r (or-right (writes (partyOf side) fifoPort x && isFull (held side st)) _ (neither (λ s. isPortStuck s st x) e side))) in
     positive (length (held side st)) some
   where
     positive : (n : ℕ) → (n ≡ 0 → ⊥) → 0 < n
@@ -245,6 +245,3 @@ read-in-table st s e k = not-false _ (rw k at (none-applies (drop 3 (stepTests s
 -- and if it is none of the others, of AGCSTS
 pub last-of-table : (o : ℕ) → inTable addon o ≡ true → isMailbox o ≡ false → (o ≡ 0x20 → ⊥) → (o ≡ 0x34 → ⊥) → (o ≡ 0x38 → ⊥) → o ≡ 0x3C
 last-of-table o t m a b c = eqb-true o 0x3C (rw (m, ne-eqb o 0x20 a, ne-eqb o 0x34 b, ne-eqb o 0x38 c) at t)
-
-pub below-13 : (code : ℕ) → code < 14 → (code ≡ 13 → ⊥) → code < 13
-below-13 code h other = omega arith

@@ -7,10 +7,12 @@ use lib.ListN.{length, length-set}
 use mir.Syntax.{w64}
 use mir.ValLaws.{toZ-pos}
 use Rattle.machine.specs.declared.Step.{Step}
+use Rattle.promises.specs.CodeTable.{stepCodes}
+use Rattle.promises.proofs.Answers.{in-list}
 use Rattle.step.specs.Parts.{InWords}
 use Rattle.driver.specs.Call.{wordsOfAnswer, stepOfWords, formOfWords}
 use Rattle.driver.proofs.Words.{left-by}
-use Rattle.driver.proofs.Call.{code-most}
+use Rattle.driver.proofs.Call.{step-code}
 use borrow.Author.Needs.{needs}
 use Rattle.driver.proofs.s5933_step.Statement.{statement}
 use Rattle.driver.proofs.s5933_step.Tie as tie
@@ -39,7 +41,7 @@ returns-2 c =
     let e = left-by words (a .start) memory s (k .result) (k .last .0) (k .last .1 .0) (k .kept .0) promised in
     let code = k .result .code in
     let same : code ≡ stepOfWords words (a .start) memory s .answer .code = λ i. e .outcome i .answer .code in
-    let small = code-most words (a .start) memory s in
+    let small = in-list 256 stepCodes (stepOfWords words (a .start) memory s .answer .code) refl (step-code words (a .start) memory s) in
     record {
       unasked = λ other. absurd (other (c .before .before .before .before .before .before .before .before .before .before .before .before .before .before .if1 .left));
       told = λ asked.

@@ -4,7 +4,7 @@ use native.Mathlib.Omega.{arith}
 use lib.ListN.{length}
 use Rattle.machine.specs.Sides.{pci, addon}
 use Rattle.machine.specs.State.{resetState}
-use Rattle.machine.specs.Access.{accessOf}
+use Rattle.machine.specs.Access.{accessOf, kindOf, isAccess}
 use Rattle.machine.specs.Step.{respond}
 use Rattle.laws.proofs.Below.{none-below}
 use Rattle.bank.specs.Words.{stateOfWords, hasRights}
@@ -25,7 +25,7 @@ returns c =
     let f = m .before .before .before in
     let l = now (f .args .words) in
     let k = m .match .keys1 in
-    (r .ensures .0 (f .args .start) (now (f .args .memory)) ∙ (λ i. respond (stateOfWords l) (f .args .start) (now (f .args .memory)) (accessOf (f .args .s)) (sym (code-of-access (stateOfWords l) (f .args .start) (length (now (f .args .memory))) (f .args .s) (omega (arith, k))) i)), r .ensures .1)
+    (r .ensures .0 (f .args .start) (now (f .args .memory)) ∙ (λ i. respond (stateOfWords l) (f .args .start) (now (f .args .memory)) (accessOf (f .args .s)) (sym (code-of-access (stateOfWords l) (f .args .start) (length (now (f .args .memory))) (f .args .s) (ap (λ n. isAccess (kindOf n)) k)) i)), r .ensures .1)
 
 returns-2 : tie.Need-returns-2
 unfolding toldStep
@@ -35,7 +35,7 @@ returns-2 c =
     let f = m .before .before .before in
     let l = now (f .args .words) in
     let k = m .match .keys2 in
-    (r .ensures .0 (f .args .start) (now (f .args .memory)) ∙ (λ i. respond (stateOfWords l) (f .args .start) (now (f .args .memory)) (accessOf (f .args .s)) (sym (code-of-access (stateOfWords l) (f .args .start) (length (now (f .args .memory))) (f .args .s) (omega (arith, k))) i)), r .ensures .1)
+    (r .ensures .0 (f .args .start) (now (f .args .memory)) ∙ (λ i. respond (stateOfWords l) (f .args .start) (now (f .args .memory)) (accessOf (f .args .s)) (sym (code-of-access (stateOfWords l) (f .args .start) (length (now (f .args .memory))) (f .args .s) (ap (λ n. isAccess (kindOf n)) k)) i)), r .ensures .1)
 
 returns-3 : tie.Need-returns-3
 unfolding toldStep
@@ -45,7 +45,7 @@ returns-3 c =
     let f = m .before .before .before in
     let l = now (f .args .words) in
     let k = m .match .keys3 in
-    (r .ensures .0 (f .args .start) (now (f .args .memory)) ∙ (λ i. respond (stateOfWords l) (f .args .start) (now (f .args .memory)) (accessOf (f .args .s)) (sym (code-of-access (stateOfWords l) (f .args .start) (length (now (f .args .memory))) (f .args .s) (omega (arith, k))) i)), r .ensures .1)
+    (r .ensures .0 (f .args .start) (now (f .args .memory)) ∙ (λ i. respond (stateOfWords l) (f .args .start) (now (f .args .memory)) (accessOf (f .args .s)) (sym (code-of-access (stateOfWords l) (f .args .start) (length (now (f .args .memory))) (f .args .s) (ap (λ n. isAccess (kindOf n)) k)) i)), r .ensures .1)
 
 returns-4 : tie.Need-returns-4
 unfolding toldStep
@@ -55,7 +55,7 @@ returns-4 c =
     let f = m .before .before .before in
     let l = now (f .args .words) in
     let k = m .match .keys4 in
-    (r .ensures .0 (f .args .start) (now (f .args .memory)) ∙ (λ i. respond (stateOfWords l) (f .args .start) (now (f .args .memory)) (accessOf (f .args .s)) (sym (code-of-access (stateOfWords l) (f .args .start) (length (now (f .args .memory))) (f .args .s) (omega (arith, k))) i)), r .ensures .1)
+    (r .ensures .0 (f .args .start) (now (f .args .memory)) ∙ (λ i. respond (stateOfWords l) (f .args .start) (now (f .args .memory)) (accessOf (f .args .s)) (sym (code-of-access (stateOfWords l) (f .args .start) (length (now (f .args .memory))) (f .args .s) (ap (λ n. isAccess (kindOf n)) k)) i)), r .ensures .1)
 
 returns-5 : tie.Need-returns-5
 unfolding toldStep
@@ -101,7 +101,7 @@ returns-8 c =
     let st = stateOfWords l in
     let memory = now (f .args .memory) in
     rw (c .unknown .ensures) (
-      refused st (f .args .start) memory (accessOf (f .args .s)) 3 (λ e. omega arith) (omega arith)
+      refused st (f .args .start) memory (accessOf (f .args .s)) 3 (λ e. omega arith) (λ e. omega arith)
           ∙ (λ i. respond st (f .args .start) memory (accessOf (f .args .s)) (sym (code-of-unknown st (f .args .start) (length memory) (f .args .s) (none-below 7 _ (c .before .before .match .rest))) i)),
       kept-same l _,
     )

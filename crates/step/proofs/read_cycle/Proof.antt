@@ -35,7 +35,7 @@ returns c =
       λ offset enables value.
           (λ i. settledOutcome (record { state = gone .ensures .state i; memory = now (f .args .memory); answer = gone .ensures .answer i }))
           ∙ abort-step (stateOfWords l) (f .args .start) (now (f .args .memory)) (cycleBy pci offset enables value) (cycleCode pci (stateOfWords l) (f .args .start) (length (now (f .args .memory)))) (getD l 28 0)
-          (sym (cycle-coded pci l (f .args .start) (length (now (f .args .memory))) (b .result) (k .read-cycle-code .result) (b .ensures) (k .read-cycle-code .ensures .1)) ∙ c .before .before .before .before .if1 .taken) refl,
+          (sym (cycle-coded pci l (f .args .start) (length (now (f .args .memory))) (b .result) (k .read-cycle-code .result) (b .ensures) (k .read-cycle-code .ensures)) ∙ c .before .before .before .before .if1 .taken) refl,
       abort-kept l _ (abortedState (stateOfWords l)) _ (gone .result) (gone .ensures .answer) (gone .ensures .rights),
     )
 
@@ -54,7 +54,7 @@ shared-slice-read-shown c =
     let f = k .before .before .before .before .before in
     let l = now (f .args .words) in
     let b = k .before .bank-in in
-    rw (c .before .before .before .place .ensures) (cycle-inside pci (stateOfWords l) (f .args .start) (length (now (f .args .memory))) (sym (cycle-coded pci l (f .args .start) (length (now (f .args .memory))) (b .result) (k .read-cycle-code .result) (b .ensures) (k .read-cycle-code .ensures .1)) ∙ c .before .before .before .before .if2 .left))
+    rw (c .before .before .before .place .ensures) (cycle-inside pci (stateOfWords l) (f .args .start) (length (now (f .args .memory))) (sym (cycle-coded pci l (f .args .start) (length (now (f .args .memory))) (b .result) (k .read-cycle-code .result) (b .ensures) (k .read-cycle-code .ensures)) ∙ c .before .before .before .before .if2 .left))
 
 slice-write-words : tie.Need-slice-write-words
 slice-write-words c =
@@ -72,8 +72,8 @@ returns-3 c =
     let start = f .args .start in
     let b = k .before .bank-in in
     let st = stateOfWords l in
-    let zero = sym (cycle-coded pci l (f .args .start) (length (now (f .args .memory))) (b .result) (k .read-cycle-code .result) (b .ensures) (k .read-cycle-code .ensures .1)) ∙ c .before .before .before .before .before .before .before .before .before .before .before .before .before .before .before .before .before .before .before .before .if2 .left in
-    let alone = cycle-alone pci l (f .args .start) (length (now (f .args .memory))) (b .result) (k .read-cycle-code .result) (b .ensures) (k .read-cycle-code .ensures .1) (c .before .before .before .before .before .before .before .before .before .before .before .before .before .before .before .before .before .before .before .before .if2 .left) in
+    let zero = sym (cycle-coded pci l (f .args .start) (length (now (f .args .memory))) (b .result) (k .read-cycle-code .result) (b .ensures) (k .read-cycle-code .ensures)) ∙ c .before .before .before .before .before .before .before .before .before .before .before .before .before .before .before .before .before .before .before .before .if2 .left in
+    let alone = cycle-alone pci l (f .args .start) (length (now (f .args .memory))) (b .result) (k .read-cycle-code .result) (b .ensures) (k .read-cycle-code .ensures) (c .before .before .before .before .before .before .before .before .before .before .before .before .before .before .before .before .before .before .before .before .if2 .left) in
     let some = read-cycle-room (bankIn l) start (length memory) alone in
     let at = c .before .before .before .before .before .before .before .before .before .before .before .before .free-place in
     let more = c .before .before .before .before .before .before .before .before .before .before .before .one-more in

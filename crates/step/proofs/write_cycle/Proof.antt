@@ -34,7 +34,7 @@ returns c =
       λ offset enables value.
           (λ i. settledOutcome (record { state = gone .ensures .state i; memory = now (f .args .memory); answer = gone .ensures .answer i }))
           ∙ abort-step (stateOfWords l) (f .args .start) (now (f .args .memory)) (cycleBy addon offset enables value) (cycleCode addon (stateOfWords l) (f .args .start) (length (now (f .args .memory)))) (getD l 32 0)
-          (sym (cycle-coded addon l (f .args .start) (length (now (f .args .memory))) (b .result) (k .write-cycle-code .result) (b .ensures) (k .write-cycle-code .ensures .1)) ∙ c .before .before .before .before .if1 .taken) refl,
+          (sym (cycle-coded addon l (f .args .start) (length (now (f .args .memory))) (b .result) (k .write-cycle-code .result) (b .ensures) (k .write-cycle-code .ensures)) ∙ c .before .before .before .before .if1 .taken) refl,
       abort-kept l _ (abortedState (stateOfWords l)) _ (gone .result) (gone .ensures .answer) (gone .ensures .rights),
     )
 
@@ -53,7 +53,7 @@ slice-read-merged c =
     let f = k .before .before .before .before .before in
     let l = now (f .args .words) in
     let b = k .before .bank-in in
-    rw (c .before .before .before .before .before .before .place .ensures) (cycle-inside addon (stateOfWords l) (f .args .start) (length (now (f .args .memory))) (sym (cycle-coded addon l (f .args .start) (length (now (f .args .memory))) (b .result) (k .write-cycle-code .result) (b .ensures) (k .write-cycle-code .ensures .1)) ∙ c .before .before .before .before .before .before .before .if2 .left))
+    rw (c .before .before .before .before .before .before .place .ensures) (cycle-inside addon (stateOfWords l) (f .args .start) (length (now (f .args .memory))) (sym (cycle-coded addon l (f .args .start) (length (now (f .args .memory))) (b .result) (k .write-cycle-code .result) (b .ensures) (k .write-cycle-code .ensures)) ∙ c .before .before .before .before .before .before .before .if2 .left))
 
 slice-write-memory : tie.Need-slice-write-memory
 unfolding stateIn
@@ -62,7 +62,7 @@ slice-write-memory c =
     let f = k .before .before .before .before .before in
     let l = now (f .args .words) in
     let b = k .before .bank-in in
-    rw (c .before .before .before .before .before .before .before .place .ensures) (cycle-inside addon (stateOfWords l) (f .args .start) (length (now (f .args .memory))) (sym (cycle-coded addon l (f .args .start) (length (now (f .args .memory))) (b .result) (k .write-cycle-code .result) (b .ensures) (k .write-cycle-code .ensures .1)) ∙ c .before .before .before .before .before .before .before .before .if2 .left))
+    rw (c .before .before .before .before .before .before .before .place .ensures) (cycle-inside addon (stateOfWords l) (f .args .start) (length (now (f .args .memory))) (sym (cycle-coded addon l (f .args .start) (length (now (f .args .memory))) (b .result) (k .write-cycle-code .result) (b .ensures) (k .write-cycle-code .ensures)) ∙ c .before .before .before .before .before .before .before .before .if2 .left))
 
 returns-3 : tie.Need-returns-3
 unfolding stateIn doneReply cycleWord stored
@@ -74,8 +74,8 @@ returns-3 c =
     let start = f .args .start in
     let b = k .before .bank-in in
     let st = stateOfWords l in
-    let zero = sym (cycle-coded addon l (f .args .start) (length (now (f .args .memory))) (b .result) (k .write-cycle-code .result) (b .ensures) (k .write-cycle-code .ensures .1)) ∙ c .before .before .before .before .before .before .before .before .before .before .before .before .before .before .before .before .before .before .before .before .before .before .if2 .left in
-    let alone = cycle-alone addon l (f .args .start) (length (now (f .args .memory))) (b .result) (k .write-cycle-code .result) (b .ensures) (k .write-cycle-code .ensures .1) (c .before .before .before .before .before .before .before .before .before .before .before .before .before .before .before .before .before .before .before .before .before .before .if2 .left) in
+    let zero = sym (cycle-coded addon l (f .args .start) (length (now (f .args .memory))) (b .result) (k .write-cycle-code .result) (b .ensures) (k .write-cycle-code .ensures)) ∙ c .before .before .before .before .before .before .before .before .before .before .before .before .before .before .before .before .before .before .before .before .before .before .if2 .left in
+    let alone = cycle-alone addon l (f .args .start) (length (now (f .args .memory))) (b .result) (k .write-cycle-code .result) (b .ensures) (k .write-cycle-code .ensures) (c .before .before .before .before .before .before .before .before .before .before .before .before .before .before .before .before .before .before .before .before .before .before .if2 .left) in
     let some = write-cycle-word (bankIn l) start (length memory) alone in
     let at = c .before .before .before .before .before .before .before .before .before .before .before .before .before .before .before .before .before .before .before .front-place in
     let word = ap (λ j. getD l (16 + j) 0) (at .ensures) ∙ sym (part-word 16 8 (getD l 34 0 % 8) l (mod-lt (getD l 34 0) (omega arith))) ∙ from-front 8 0 (addonIn l) (getD l 34 0) (getD l 35 0) some in
