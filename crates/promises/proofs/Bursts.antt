@@ -2,21 +2,20 @@
 --     go-done                        a cycle that has the right, or four, is done
 --     one-cycle                      what it leaves
 --     runs                           so do as many as there are words, or as there is room
-use Prim.Native.Nat.{ℕ, zero, suc, _+_, _-_, _*_, _%_, _^_, _<_, _≤_, min}
+use Prim.Native.Nat.{ℕ, zero, suc, _+_, _-_, _*_, _%_, _^_, _<_, min}
 use mathlib.Core.Path.{_≡_, refl, sym, ap, subst, _∙_}
 use mathlib.Core.Bool.{Bool, true, false, cond, not, _&&_, _||_}
-use mathlib.Core.List.{List, [], _∷_, map}
+use mathlib.Core.List.{List, _∷_, map}
 use native.Mathlib.Omega.{arith}
 use lib.Dec.{eqb, leb}
 use lib.ListN.{length, replicate, length-set}
-use borrow.Author.Tests.{leb-true, le-leb, ne-eqb}
+use borrow.Author.Tests.{le-leb, ne-eqb}
 use Rattle.machine.specs.Words.{bit}
 use Rattle.machine.specs.Sides.{Side, pci, addon}
 use Rattle.machine.specs.State.{State, lane, held}
 use Rattle.machine.specs.Access.{accessOf}
-use Rattle.machine.specs.Fifos.{amount}
 use Rattle.machine.specs.Window.{inside, isWindowOutOfForm}
-use Rattle.machine.specs.Cycles.{needed, isReady, stored, addressAfter}
+use Rattle.machine.specs.Cycles.{isReady, stored, addressAfter}
 use Rattle.machine.specs.Interrupts.{interruptsAfter, abortIn}
 use Rattle.machine.specs.Rights.{settled}
 use Rattle.machine.specs.Code.{codeOf, isOutOfForm, isUnknownOffset, hasBadEnables, isPartFifoAccess, isReadOnlyWrite, isFullOrEmpty, isTransferOff, isCountZero, isAbortStanding, isNotReady, isNoMemory}
@@ -26,7 +25,7 @@ use Rattle.machine.specs.Run.{run}
 use Rattle.machine.specs.declared.Answer.{Answer}
 use Rattle.laws.proofs.Form.{form-kept}
 use Rattle.promises.specs.Rights.{asksFour, letsGo, waitsFor, Book, cycleStep, further, BurstRuns}
-use Rattle.promises.proofs.Rights.{bookOf, book-respond, no-abort-after}
+use Rattle.promises.proofs.Rights.{book-respond, no-abort-after}
 
 -- ---- a cycle that may go
 
@@ -65,7 +64,7 @@ go-done addon st start words m g =
 -- ---- what it leaves
 
 stands : (right four on more none out : Bool) → four ≡ true → on ≡ true → (right || more) ≡ true → none ≡ false → out ≡ false
-    → ((right || four && more) && not (none || (out || (not four || (not on || false))))) ≡ true
+    → ((right || four && more) && not (none || out || not four || not on)) ≡ true
 stands right four on more none out f o r n c = rw (f, o, r, n, c)
 
 module _ (st : State) (start : ℕ) (memory : List ℕ) (m : ℕ) where
@@ -95,11 +94,12 @@ module _ (st : State) (start : ℕ) (memory : List ℕ) (m : ℕ) where
   no-reset pci = refl
   no-reset addon = refl
 
-  -- the book after it: one word more or less, the count less, MCSR as it was, and the right if another cycle may come
+  -- the book after it: one word more or less, the count less, the bits of MCSR as they were, and the right if another cycle may come
   record Turned (side : Side) : Type 0 where
     waits : waitsFor side (length (held side (after side .state))) ≡ m
     count : lane side (after side .state) .count ≡ lane side st .count - min 4 (lane side st .count)
-    mcsr : after side .state .mcsr ≡ st .mcsr
+    four : bit (after side .state .mcsr) (asksFour side) ≡ bit (st .mcsr) (asksFour side)
+    on : bit (after side .state .mcsr) (letsGo side) ≡ bit (st .mcsr) (letsGo side)
     right : 0 < m → lane side (after side .state) .right ≡ true
 
   turns : (side : Side) → Goes side st start (length memory) (suc m) → Turned side
@@ -114,7 +114,8 @@ module _ (st : State) (start : ℕ) (memory : List ℕ) (m : ℕ) where
       record {
         waits = ap (λ (b : Book). 8 - b .words) book ∙ left;
         count = ap (λ (b : Book). b .count) book;
-        mcsr = ap (λ (b : Book). b .mcsr) book;
+        four = ap (λ (b : Book). b .four) book;
+        on = ap (λ (b : Book). b .on) book;
         right = λ p. ap (λ (b : Book). b .right) book ∙ stands (st .fromPci .right) (bit (st .mcsr) 13) (bit (st .mcsr) 14) (leb 4 (8 - w)) _ _ (g .four) (g .on) (rw was (g .right (omega arith))) (ne-eqb (8 - (w - 0 + 1)) 0 (λ e. omega arith)) (ne-eqb (n - min 4 n) 0 (λ e. omega arith));
       }
   turns addon g =
@@ -127,7 +128,8 @@ module _ (st : State) (start : ℕ) (memory : List ℕ) (m : ℕ) where
       record {
         waits = ap (λ (b : Book). b .words) book ∙ left;
         count = ap (λ (b : Book). b .count) book;
-        mcsr = ap (λ (b : Book). b .mcsr) book;
+        four = ap (λ (b : Book). b .four) book;
+        on = ap (λ (b : Book). b .on) book;
         right = λ p. ap (λ (b : Book). b .right) book ∙ stands (st .fromAddon .right) (bit (st .mcsr) 9) (bit (st .mcsr) 10) (leb 4 w) _ _ (g .four) (g .on) (rw was (g .right (omega arith))) (ne-eqb (w - 1 + 0) 0 (λ e. omega arith)) (ne-eqb (n - min 4 n) 0 (λ e. omega arith));
       }
 
@@ -140,8 +142,8 @@ module _ (st : State) (start : ℕ) (memory : List ℕ) (m : ℕ) where
       record {
         form = rw (same side g) at (form-kept st start memory (cycleStep side) (g .form));
         window = g .window;
-        on = rw (t .mcsr) (g .on);
-        four = rw (t .mcsr) (g .four);
+        on = t .on ∙ g .on;
+        four = t .four ∙ g .four;
         quiet = rw (intcsr-after side) (no-abort-after st start memory (cycleStep side) (go-done side st start (length memory) m g) (no-reset side) (g .quiet));
         waits = t .waits;
         right = λ p. rw (t .right p);

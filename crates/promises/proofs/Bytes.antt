@@ -1,15 +1,16 @@
 -- The bits of masks, shown, merged and written words, and the bytes of merged ones.
-use Prim.Native.Nat.{ℕ, zero, suc, _+_, _*_, _/_, _^_, _<_}
+use Prim.Native.Nat.{ℕ, zero, suc, _+_, _-_, _*_, _/_, _%_, _^_, _<_}
 use mathlib.Core.Path.{_≡_, refl, sym, ap, _∙_}
-use mathlib.Core.Bool.{Bool, true, false, cond, not, _&&_, _||_, and-true, and-false, or-false}
+use mathlib.Core.Bool.{Bool, true, false, cond, not, _&&_, _||_, and-true, and-false, and-comm, or-false}
 use mathlib.Core.List.{List, [], _∷_, head-eq-of-cons-eq, tail-eq-of-cons-eq}
+use native.Mathlib.Nat.{div-div-eq-div-mul}
 use native.Mathlib.Omega.{arith}
 use lib.Dec.{eqb, ltb}
 use lib.Bits.{or-lt, and-le-r}
 use borrow.Author.Tests.{eqb-true, eqb-false, ltb-true}
-use Rattle.machine.specs.Words.{bit, ones, byteMask, mask, shown, merged, written}
-use Rattle.promises.specs.Account.{byteOf}
-use Rattle.laws.proofs.Bits.{bit-or, bit-and, bit-zero, bit-cleared, bit-low, bit-shr, by-bits}
+use Rattle.machine.specs.Words.{bit, ones, byteMask, mask, cleared, shown, merged, written}
+use Rattle.promises.specs.Account.{byteOf, wordOf}
+use Rattle.laws.proofs.Bits.{bit-or, bit-and, bit-zero, bit-cleared, bit-ones, bit-low, bit-shr, by-bits}
 use Rattle.laws.proofs.Tests.{cond-part}
 
 -- two tests agree below n if they agree on each: by computation for tests of numbers
@@ -52,6 +53,14 @@ mask-lt e =
 pub shown-lt : (x e : ℕ) → shown x e < 2 ^ 32
 unfolding shown
 shown-lt x e = omega (arith, and-le-r x (mask e), mask-lt e)
+
+cleared-lt : (x y : ℕ) → cleared x y < 2 ^ 32
+unfolding cleared
+cleared-lt x y = omega (arith, and-le-r x (ones 0 31 - y))
+
+merged-lt : (old new e : ℕ) → merged old new e < 2 ^ 32
+unfolding merged
+merged-lt old new e = or-lt 32 _ _ (cleared-lt old (mask e)) (shown-lt new e)
 
 module _ (k : ℕ) (h : k < 32) where
   pub bit-mask : (e : ℕ) → bit (mask e) k ≡ bit e (k / 8)
@@ -100,3 +109,31 @@ byte-merged i h old new e =
         let d : (8 * i + j) / 8 ≡ i = omega arith in
         bit-merged (8 * i + j) (omega arith) old new e ∙ rw d
     at j false q = same (bit e i)
+
+-- a word is its bytes
+word-bytes : (w : ℕ) → w < 2 ^ 32 → w ≡ wordOf (λ i. byteOf i w)
+word-bytes w h = join (w / 2 ^ 8) (w / 2 ^ 16) (w / 2 ^ 24) (omega arith) (next (2 ^ 8)) (next (2 ^ 16)) (omega arith)
+  where
+    -- one byte further on
+    next : (n : ℕ) → w / n ≡ w / n % 2 ^ 8 + w / (n * 2 ^ 8) * 2 ^ 8
+    next n = omega (arith, div-div-eq-div-mul w n (2 ^ 8))
+
+    join : (p q r : ℕ) → w ≡ w % 2 ^ 8 + p * 2 ^ 8 → p ≡ p % 2 ^ 8 + q * 2 ^ 8 → q ≡ q % 2 ^ 8 + r * 2 ^ 8 → r < 2 ^ 8
+        → w ≡ w / 1 % 2 ^ 8 + p % 2 ^ 8 * 2 ^ 8 + q % 2 ^ 8 * 2 ^ 16 + r % 2 ^ 8 * 2 ^ 24
+    join p q r a b c d = omega arith
+
+-- so a merged word is each byte of the one or of the other
+pub merged-bytes : (old new e : ℕ) → merged old new e ≡ wordOf (λ i. cond (bit e i) (byteOf i new) (byteOf i old))
+merged-bytes old new e =
+    let byte : (i : ℕ) → i < 4 → byteOf i (merged old new e) ≡ cond (bit e i) (byteOf i new) (byteOf i old) = λ i h. byte-merged i h old new e in
+    word-bytes (merged old new e) (merged-lt old new e)
+    ∙ (λ j. byte 0 (omega arith) j + byte 1 (omega arith) j * 2 ^ 8 + byte 2 (omega arith) j * 2 ^ 16 + byte 3 (omega arith) j * 2 ^ 24)
+
+-- and one that is written to a register of n bits is its lowest n
+pub written-low : (n old new e : ℕ) → written (2 ^ n - 1) old new e ≡ merged old new e % 2 ^ n
+unfolding written
+written-low n old new e =
+    by-bits _ _
+    (λ k.
+    bit-and (merged old new e) (2 ^ n - 1) k ∙ ap (λ (b : Bool). bit (merged old new e) k && b) (bit-ones n k) ∙ and-comm (bit (merged old new e) k) (ltb k n)
+    ∙ sym (bit-low n (merged old new e) k))

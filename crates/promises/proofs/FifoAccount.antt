@@ -31,7 +31,7 @@ use Rattle.promises.proofs.After.{part-refused, part-done}
 
 -- ---- one step
 
-held-done : (side : Side) (st : State) (x : Access) (word : ℕ) → held side (doneState st x word) ≡ fifoAfter side x word (held side st)
+pub held-done : (side : Side) (st : State) (x : Access) (word : ℕ) → held side (doneState st x word) ≡ fifoAfter side x word (held side st)
 unfolding movedState settled doneState
 held-done pci st x word = refl
 held-done addon st x word = refl

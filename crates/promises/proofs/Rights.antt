@@ -1,17 +1,18 @@
 -- The right of a burst is what the account says.
 --     book-done, book-step           one step: the book of a state turns into that of the state after it
 --     book-run                       a run
-use Prim.Native.Nat.{ℕ, zero, suc, _+_, _-_, _≤_}
+use Prim.Native.Nat.{ℕ, zero, suc, _+_, _-_, _/_, _%_, _^_, _<_}
 use mathlib.Core.Path.{_≡_, refl, sym, ap, _∙_}
-use mathlib.Core.Bool.{Bool, true, false, cond, not, _&&_, _||_, and-false, and-true}
-use mathlib.Core.List.{List, [], _∷_, _++_}
+use mathlib.Core.Bool.{Bool, true, false, cond, not, _&&_, _||_, and-false, and-true, or-false}
+use mathlib.Core.List.{List, [], _∷_}
 use native.Mathlib.Omega.{arith}
 use lib.Dec.{eqb, leb, eqb·suc-zero}
 use lib.ListN.{length, drop, length-append, length-drop}
 use Rattle.machine.specs.Words.{bit, anyOf, written}
 use Rattle.machine.specs.Sides.{Side, pci, addon}
-use Rattle.machine.specs.State.{State, Lane, lane, held, resetState}
-use Rattle.machine.specs.Access.{Access, accessOf, kindOf, cycles, isReset}
+use Rattle.machine.specs.State.{State, lane, held, resetState}
+use Rattle.machine.specs.Access.{Access, accessOf, kindOf, cycles, isReset, writes}
+use Rattle.machine.specs.Offsets.{countAt}
 use Rattle.machine.specs.Commands.{clearsFifo}
 use Rattle.machine.specs.Fifos.{amount, followed, letIn, handedOut, fifoAfter}
 use Rattle.machine.specs.Mcsr.{mcsrKept, enableBit, fourBit, mcsrAfter}
@@ -19,23 +20,25 @@ use Rattle.machine.specs.Cycles.{countKept, countLeft, countAfter, earns, right
 use Rattle.machine.specs.Interrupts.{interruptsAfter, abortIn}
 use Rattle.machine.specs.Rights.{ends, ended, settled}
 use Rattle.machine.specs.Code.{codeOf, tests, testOf, faults, laneFaults, isOutOfForm, isAbortStanding}
-use Rattle.machine.specs.Step.{movedState, doneState, abortedState, stateAfter, replyOf, answered, respond, stepOf}
+use Rattle.machine.specs.Step.{movedState, doneState, abortedState, stateAfter, answered, respond, stepOf}
 use Rattle.machine.specs.Event.{Event}
 use Rattle.machine.specs.Run.{run}
 use Rattle.machine.specs.declared.Step.{Step}
 use Rattle.machine.specs.declared.Answer.{Answer}
-use Rattle.laws.proofs.Tests.{or-left, or-right, and-left, and-at, any-none, neither, none-applies}
+use Rattle.laws.proofs.Tests.{or-left, or-right, and-left, and-at, cond-part, any-none, any-five, neither, none-applies}
+use Rattle.laws.proofs.Bits.{bit-zero}
 use Rattle.laws.proofs.KindNumbers.{Named, named}
-use Rattle.laws.proofs.Form.{form-kept, reset-form}
-use Rattle.promises.specs.Account.{isDone, isKind, clears}
-use Rattle.promises.specs.Rights.{cycleKind, countOffset, asksFour, letsGo, waitsFor, Book, blank, wordsThen, turned, bookAfter, bookFrom, RightAccount}
-use Rattle.promises.specs.Readings.{unlessWritten, countThen}
+use Rattle.promises.specs.Account.{writtenOver, clears}
+use Rattle.promises.specs.Rights.{cycleKind, asksFour, letsGo, waitsFor, Book, blank, wordsThen, bytesThen, mcsrThen, turned, bookAfter, bookFrom, RightAccount}
 use Rattle.promises.proofs.Numbers.{reset-is, clears-is, in-is, out-is}
+use Rattle.promises.proofs.FifoAccount.{held-done}
+use Rattle.promises.proofs.Bytes.{bit-written, merged-bytes, written-low}
+use Rattle.promises.proofs.Readings.{kept-bits}
 use Rattle.promises.proofs.Events.{event-rule}
 
 -- the book that a state stands for
 abbrev pub bookOf : Side → State → Book
-bookOf side st = record { words = length (held side st); count = lane side st .count; mcsr = st .mcsr; right = lane side st .right }
+bookOf side st = record { words = length (held side st); count = lane side st .count; four = bit (st .mcsr) (asksFour side); on = bit (st .mcsr) (letsGo side); right = lane side st .right }
 
 pub waits : (side : Side) (ws : List ℕ) → amount side ws ≡ waitsFor side (length ws)
 waits pci ws = refl
@@ -67,28 +70,57 @@ cycle-is : (side : Side) (k : ℕ) → cycles side (kindOf k) ≡ eqb k (cycleKi
 cycle-is pci k = named k .readCycle
 cycle-is addon k = named k .writeCycle
 
-count-turned : (side : Side) (s : Step) (old : ℕ) → countAfter side (accessOf s) old ≡ countThen (countOffset side) (cycleKind side) s old
+count-turned : (side : Side) (e : Event) (old : ℕ) → countAfter side (accessOf (e .step)) old ≡ bytesThen side e old
 unfolding countAfter
-count-turned pci s old =
-    let n = named (s .kind) in
-    λ i. cond (n .pciWrite i && eqb (s .offset) 0x30) (written countKept old (s .value) (s .enables)) (cond (n .readCycle i) (countLeft old) old)
-count-turned addon s old =
-    let n = named (s .kind) in
-    λ i. cond (n .pciWrite i && eqb (s .offset) 0x28) (written countKept old (s .value) (s .enables)) (cond (n .writeCycle i) (countLeft old) old)
+count-turned side e old = by side
+  where
+    s : Step
+    s = e .step
 
-mcsr-turned : (s : Step) (old : ℕ) → mcsrAfter (accessOf s) old ≡ unlessWritten 1 0x3C mcsrKept s old old
+    written-is : written countKept old (s .value) (s .enables) ≡ writtenOver old e % 2 ^ 26
+    written-is = written-low 26 old (s .value) (s .enables) ∙ ap (λ (w : ℕ). w % 2 ^ 26) (merged-bytes old (s .value) (s .enables))
+
+    n : Named (s .kind)
+    n = named (s .kind)
+
+    by : (of : Side) → cond (writes pci (countAt of) (accessOf s)) (written countKept old (s .value) (s .enables)) (cond (cycles of (kindOf (s .kind))) (countLeft old) old) ≡ bytesThen of e old
+    by pci = λ i. cond (n .pciWrite i && eqb (s .offset) 0x30) (written-is i) (cond (n .readCycle i) (countLeft old) old)
+    by addon = λ i. cond (n .pciWrite i && eqb (s .offset) 0x28) (written-is i) (cond (n .writeCycle i) (countLeft old) old)
+
+-- a bit of MCSR that is kept, of byte 1
+mcsr-turned : (k : ℕ) → k < 32 → k / 8 ≡ 1 → bit mcsrKept k ≡ true → (e : Event) (old : ℕ) → bit (mcsrAfter (accessOf (e .step)) old) k ≡ mcsrThen k e (bit old k)
 unfolding mcsrAfter
-mcsr-turned s old = λ i. cond (named (s .kind) .pciWrite i && eqb (s .offset) 0x3C) (written mcsrKept old (s .value) (s .enables)) old
+mcsr-turned k h one kept e old =
+    let s = e .step in
+    let w = eqb (s .kind) 1 && eqb (s .offset) 0x3C in
+    cond-part (λ (r : ℕ). bit r k) (writes pci 0x3C (accessOf s)) (written mcsrKept old (s .value) (s .enables)) old
+    ∙ (λ i. cond (named (s .kind) .pciWrite i && eqb (s .offset) 0x3C) (bit-written k h mcsrKept old (s .value) (s .enables) i) (bit old k))
+    ∙ rw (one, kept) (both w (bit (s .enables) 1) (bit (s .value) k) (bit old k))
+  where
+    both : (w b new old : Bool) → cond w (cond b new old && true) old ≡ cond (w && b) new old
+    both true b new old = and-true (cond b new old)
+    both false b new old = refl
+
+four-turned : (side : Side) (e : Event) (old : ℕ) → bit (mcsrAfter (accessOf (e .step)) old) (asksFour side) ≡ mcsrThen (asksFour side) e (bit old (asksFour side))
+four-turned pci e old = mcsr-turned 13 (omega arith) refl (kept-bits 13 (omega arith) .mcsr) e old
+four-turned addon e old = mcsr-turned 9 (omega arith) refl (kept-bits 9 (omega arith) .mcsr) e old
+
+on-turned : (side : Side) (e : Event) (old : ℕ) → bit (mcsrAfter (accessOf (e .step)) old) (letsGo side) ≡ mcsrThen (letsGo side) e (bit old (letsGo side))
+on-turned pci e old = mcsr-turned 14 (omega arith) refl (kept-bits 14 (omega arith) .mcsr) e old
+on-turned addon e old = mcsr-turned 10 (omega arith) refl (kept-bits 10 (omega arith) .mcsr) e old
+
+no-end : (b c d f : Bool) → not (anyOf (b ∷ c ∷ d ∷ f ∷ false ∷ [])) ≡ not (b || c || d || f)
+no-end b c d f = ap not (sym (any-five b c d f false) ∙ or-false (b || c || d || f))
 
 -- the right, where no abort stands if it is had or earned
 right-turned : (cut right earn : Bool) (b c d f abort : Bool) → ((right || earn) ≡ true → abort ≡ false)
-    → (cond cut false (cond earn true right) && not (anyOf (b ∷ c ∷ d ∷ f ∷ abort ∷ []))) ≡ ((right || earn) && not (cut || anyOf (b ∷ c ∷ d ∷ f ∷ [])))
+    → (cond cut false (cond earn true right) && not (anyOf (b ∷ c ∷ d ∷ f ∷ abort ∷ []))) ≡ ((right || earn) && not (cut || (b || c || d || f)))
 right-turned true true earn b c d f abort h = refl
 right-turned true false true b c d f abort h = refl
 right-turned true false false b c d f abort h = refl
-right-turned false true true b c d f abort h = rw (h refl)
-right-turned false true false b c d f abort h = rw (h refl)
-right-turned false false true b c d f abort h = rw (h refl)
+right-turned false true true b c d f abort h = rw (h refl) (no-end b c d f)
+right-turned false true false b c d f abort h = rw (h refl) (no-end b c d f)
+right-turned false false true b c d f abort h = rw (h refl) (no-end b c d f)
 right-turned false false false b c d f abort h = refl
 
 right-done : (side : Side) (st : State) (x : Access) (word : ℕ)
@@ -97,11 +129,6 @@ right-done : (side : Side) (st : State) (x : Access) (word : ℕ)
 unfolding movedState settled doneState
 right-done pci st x word = refl
 right-done addon st x word = refl
-
-words-done : (side : Side) (st : State) (x : Access) (word : ℕ) → held side (doneState st x word) ≡ fifoAfter side x word (held side st)
-unfolding movedState settled doneState
-words-done pci st x word = refl
-words-done addon st x word = refl
 
 count-done : (side : Side) (st : State) (x : Access) (word : ℕ) → lane side (doneState st x word) .count ≡ countAfter side x (lane side st .count)
 unfolding movedState settled doneState
@@ -131,14 +158,16 @@ book-done side st s a other quiet =
     let m = mcsrAfter x (st .mcsr) in
     let after = fifoAfter side x (a .value) (l .words) in
     let words = words-turned side st s a other in
-    let mcsr = mcsr-turned s (st .mcsr) in
-    let count = count-turned side s (l .count) in
     let e : Event = record { step = s; answer = a } in
+    let count = count-turned side e (l .count) in
+    let four = four-turned side e (st .mcsr) in
+    let on = on-turned side e (st .mcsr) in
     let right : lane side (doneState st x (a .value)) .right ≡ turned side (bookOf side st) e .right =
     right-done side st x (a .value)
     ∙ right-turned (clearsFifo side x) (l .right) (earns side x (st .mcsr) (l .words)) (eqb (amount side after) 0) (eqb (countAfter side x (l .count)) 0) (not (bit m (fourBit side))) (not (bit m (enableBit side))) (abortIn (interruptsAfter pci (x .kind) st x)) quiet
-    ∙ (λ i. (l .right || cycle-is side (s .kind) i && bit (st .mcsr) (four-is side i) && leb 4 (waits side (l .words) i)) && not (cleared side st s a other i || anyOf (eqb ((waits side after ∙ ap (waitsFor side) words) i) 0 ∷ eqb (count i) 0 ∷ not (bit (mcsr i) (four-is side i)) ∷ not (bit (mcsr i) (on-is side i)) ∷ []))) in
-    λ i. record { words = (ap (λ (ws : List ℕ). length ws) (words-done side st x (a .value)) ∙ words) i; count = (count-done side st x (a .value) ∙ count) i; mcsr = (mcsr-done st x (a .value) ∙ mcsr) i; right = right i }
+    ∙ (λ i. (l .right || cycle-is side (s .kind) i && bit (st .mcsr) (four-is side i) && leb 4 (waits side (l .words) i)) && not (cleared side st s a other i || (eqb ((waits side after ∙ ap (waitsFor side) words) i) 0 || eqb (count i) 0 || not ((ap (bit m) (four-is side) ∙ four) i) || not ((ap (bit m) (on-is side) ∙ on) i)))) in
+    let mcsr = mcsr-done st x (a .value) in
+    λ i. record { words = (ap (λ (ws : List ℕ). length ws) (held-done side st x (a .value)) ∙ words) i; count = (count-done side st x (a .value) ∙ count) i; four = (ap (λ (r : ℕ). bit r (asksFour side)) mcsr ∙ four) i; on = (ap (λ (r : ℕ). bit r (letsGo side)) mcsr ∙ on) i; right = right i }
 
 -- ---- no abort stands where a cycle is done, nor with a right in form; and no done step sets one
 
@@ -181,10 +210,25 @@ module _ (st : State) (start : ℕ) (memory : List ℕ) (s : Step) (e : codeOf s
 -- ---- any step
 
 book-reset : (side : Side) → bookOf side resetState ≡ blank
-book-reset pci = refl
-book-reset addon = refl
+book-reset side = λ i. record { words = held-none side i; count = count-none side i; four = bit-zero (asksFour side) i; on = bit-zero (letsGo side) i; right = right-none side i }
+  where
+    held-none : (of : Side) → length (held of resetState) ≡ 0
+    held-none pci = refl
+    held-none addon = refl
 
-book-aborted : (side : Side) (st : State) → bookOf side (abortedState st) ≡ record { words = length (held side st); count = lane side st .count; mcsr = st .mcsr; right = false }
+    count-none : (of : Side) → lane of resetState .count ≡ 0
+    count-none pci = refl
+    count-none addon = refl
+
+    right-none : (of : Side) → lane of resetState .right ≡ false
+    right-none pci = refl
+    right-none addon = refl
+
+-- the book of a state with another right
+abbrev righted : Side → State → Bool → Book
+righted side st right = record { words = length (held side st); count = lane side st .count; four = bit (st .mcsr) (asksFour side); on = bit (st .mcsr) (letsGo side); right = right }
+
+book-aborted : (side : Side) (st : State) → bookOf side (abortedState st) ≡ righted side st false
 unfolding abortedState
 book-aborted pci st = refl
 book-aborted addon st = refl
@@ -201,9 +245,9 @@ module _ (side : Side) (st : State) (start : ℕ) (memory : List ℕ) (s : Step)
       by a false r = rw (named (s .kind) .reset ∙ r) (book-done side st s a r (λ h. no-abort-after st start memory s e r (no-abort-before side st start (length memory) (accessOf s) e h)))
   book-respond (suc n) e = rw (eqb·suc-zero n) (by (eqb (suc n) 13))
     where
-      by : (b : Bool) → bookOf side (cond b (abortedState st) st) ≡ record { words = length (held side st); count = lane side st .count; mcsr = st .mcsr; right = lane side st .right && not b }
-      by true = book-aborted side st ∙ (λ i. record { words = length (held side st); count = lane side st .count; mcsr = st .mcsr; right = sym (and-false (lane side st .right)) i })
-      by false = λ i. record { words = length (held side st); count = lane side st .count; mcsr = st .mcsr; right = sym (and-true (lane side st .right)) i }
+      by : (b : Bool) → bookOf side (cond b (abortedState st) st) ≡ righted side st (lane side st .right && not b)
+      by true = book-aborted side st ∙ ap (righted side st) (sym (and-false (lane side st .right)))
+      by false = ap (righted side st) (sym (and-true (lane side st .right)))
 
 book-run : (side : Side) (start : ℕ) (steps : List Step) (st : State) (memory : List ℕ)
     → (let r = run st start memory steps in bookOf side (r .state) ≡ bookFrom side (bookOf side st) (r .events))

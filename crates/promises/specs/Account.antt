@@ -1,6 +1,6 @@
--- Demand 3: what its three accounts count, and what a mailbox byte holds. Everything here goes by the numbers of steps and answers alone;
+-- Demand 3: what its three accounts count, and what a mailbox byte holds; `Rights` counts by the same words. Everything here goes by the numbers of steps and answers alone;
 -- no rule of the machine and no part of its state is used.
-use Prim.Native.Nat.{ℕ, _*_, _/_, _%_, _^_}
+use Prim.Native.Nat.{ℕ, _+_, _*_, _/_, _%_, _^_}
 use mathlib.Core.Path.{_≡_}
 use mathlib.Core.Bool.{Bool, true, false, cond, _&&_, _||_}
 use mathlib.Core.List.{List, [], _∷_, map}
@@ -23,6 +23,17 @@ isAt kind offset e = isKind kind e && eqb (e .step .offset) offset
 -- a write of a kind to offset 3C with byte 3 enabled and a one in bit k
 abbrev pub command : ℕ → ℕ → Event → Bool
 command kind k e = isAt kind 0x3C e && bit (e .step .enables) 3 && bit (e .step .value) k
+
+-- byte i of a word, and a word of four bytes
+abbrev pub byteOf : ℕ → ℕ → ℕ
+byteOf i word = word / 2 ^ (8 * i) % 2 ^ 8
+
+abbrev pub wordOf : (ℕ → ℕ) → ℕ
+wordOf byte = byte 0 + byte 1 * 2 ^ 8 + byte 2 * 2 ^ 16 + byte 3 * 2 ^ 24
+
+-- a word after a write: the enabled bytes of the data, the others its own
+abbrev pub writtenOver : ℕ → Event → ℕ
+writtenOver old e = wordOf (λ i. cond (bit (e .step .enables) i) (byteOf i (e .step .value)) (byteOf i old))
 
 -- ---- the FIFOs, each named by the side that feeds it
 
@@ -96,10 +107,6 @@ wasWrite clear = false
 wasWrite none = false
 
 -- ---- what the mailbox bytes hold
-
--- byte i of a word
-abbrev pub byteOf : ℕ → ℕ → ℕ
-byteOf i word = word / 2 ^ (8 * i) % 2 ^ 8
 
 -- mailbox byte k after an event: a done reset makes it zero, its owner's done write stores that byte of its data, nothing else changes it
 abbrev pub byteAfter : ℕ → ℕ → Event → ℕ
