@@ -1,4 +1,4 @@
--- Demand 3: what its three accounts count, and what a mailbox byte holds; `Rights` counts by the same words. Everything here goes by the numbers of steps and answers alone;
+-- Demand 3: what its three accounts count, and what a mailbox byte holds. Everything here goes by the numbers of steps and answers alone;
 -- no rule of the machine and no part of its state is used.
 use Prim.Native.Nat.{ℕ, _+_, _*_, _/_, _%_, _^_}
 use mathlib.Core.Path.{_≡_}
