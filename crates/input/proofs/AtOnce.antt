@@ -23,7 +23,7 @@ use Rattle.input.specs.Input.{isSetLine, inputLog, heard, passing}
 use Rattle.input.specs.Promises.{OverAtOnce, SetChosen, InputsCut}
 use Rattle.input.proofs.Passing.{heard-lf, heard-other, heard-second, heard-no-second, heard-first, heard-no-first}
 use Rattle.input.proofs.FirstLine.{firstLine, first-none, first-lf, first-more, past, past-lf, past-on, none-empty, none-short, none-long, pair, none-second, is-second, none-first, set-line-read}
-use Rattle.input.proofs.Joined.{lf-first, lf-second, first-digit}
+use Rattle.input.proofs.ByFirst.{lf-first, lf-second, first-digit}
 
 -- ---- over at once
 

@@ -2,19 +2,12 @@
 --     over-none, frames-log    what pieces log after the set line
 --     as-one                   pieces log what they do as one
 --     whole                    an input as one piece, by its first line
-use Prim.Native.Nat.{ℕ, _+_, _*_}
+use Prim.Native.Nat.{ℕ}
 use mathlib.Core.Path.{_≡_, refl, sym, ap, _∙_}
-use mathlib.Core.Bool.{Bool, true, false, cond, _&&_, true≢false}
 use mathlib.Core.List.{List, [], _∷_, _++_, append-nil}
-use native.Mathlib.Omega.{arith}
-use native.Mathlib.Decide.{ℕ-discrete}
-use borrow.Author.Tests.{eq-eqb, ne-eqb, ltb-true, lt-ltb}
-use lib.Dec.{ltb, eqb}
 use Rattle.machine.specs.State.{State, resetState}
 use Rattle.machine.specs.Window.{zeroWords}
-use Rattle.hex.specs.Hex.{hexDigits, placeIn, digitNumber, number, numberFrom}
 use Rattle.lines.specs.Lines.{linesFrom}
-use Rattle.logline.specs.Labels.{english, german, labelSets, isSet}
 use Rattle.logline.specs.LogLine.{refusal}
 use Rattle.log.specs.Log.{logOf, linesOutcome, textOutcome, pieceOutcome}
 use Rattle.log.specs.Promises.{joined, piecesOutcome, programLog}
@@ -24,10 +17,10 @@ use Rattle.input.specs.declared.Reading.{Reading}
 use Rattle.input.specs.declared.Reading.the-variants.{FirstLine, Frames, Over}
 use Rattle.input.specs.declared.SetLine.{SetLine}
 use Rattle.input.specs.declared.SetLine.the-variants.{Nothing, Digit, Number}
-use Rattle.input.specs.Input.{isSetLine, inputLog, heard, hasSet, Passing, passing, refusalAfter, fedPast, fedInput, endedFirst, endedInput}
+use Rattle.input.specs.Input.{inputLog, heard, hasSet, passing, refusalAfter, fedPast, fedInput, endedFirst, endedInput}
 use Rattle.input.specs.Promises.{piecesLog, InputJoined}
-use Rattle.input.proofs.Passing.{passing-none, passing-frames, passing-over, passing-append, passing-rest, heard-lf, heard-other, heard-second, heard-no-second, heard-first, heard-no-first}
-use Rattle.input.proofs.FirstLine.{firstLine, past, first-none, past-none, first-lf, past-lf, first-more, past-on, none-empty, none-short, none-long, pair, none-second, pair-is, is-second, none-first}
+use Rattle.input.proofs.Passing.{passing-none, passing-frames, passing-over, passing-append, passing-rest}
+use Rattle.input.proofs.ByFirst.{onFrom, atEnd, by-first}
 
 module _ (start : ℕ) where
   -- ---- after the set line
@@ -103,100 +96,25 @@ module _ (start : ℕ) where
 
 -- ---- an input as one piece, by its first line
 
--- what the first line says after the bytes `begun` of it
-abbrev byFirst : List ℕ → List ℕ → List ℕ
-byFirst begun xs = cond (isSetLine (begun ++ firstLine xs)) (programLog (number (begun ++ firstLine xs)) (past xs)) refusal
-
--- the whole rest of an input, from a reading on
-abbrev whole : Reading → List ℕ → List ℕ
-whole r xs = piecesLog r resetState 0 zeroWords [] (xs ∷ [])
-
-abbrev chosen : Reading → List ℕ → List ℕ
-chosen (FirstLine line) xs = whole (FirstLine line) xs
-chosen (Frames set) xs = programLog set xs
-chosen Over xs = refusal
+-- the whole rest of an input, from what has come of the set line on
+abbrev whole : SetLine → List ℕ → List ℕ
+whole line xs = piecesLog (FirstLine line) resetState 0 zeroWords [] (xs ∷ [])
 
 -- a byte more
-whole-more : (line : SetLine) (x : ℕ) (xs : List ℕ) (r : Reading) → heard line x ≡ r → whole (FirstLine line) (x ∷ xs) ≡ chosen r xs
+whole-more : (line : SetLine) (x : ℕ) (xs : List ℕ) (r : Reading) → heard line x ≡ r → whole line (x ∷ xs) ≡ onFrom whole programLog refusal r xs
 unfolding passing programLog
 whole-more line x xs (FirstLine next) e = on-from 0 resetState zeroWords line next (x ∷ xs) xs [] (ap (λ (r : Reading). passing r xs) e)
 whole-more line x xs (Frames set) e =
     frames-from 0 resetState zeroWords line (x ∷ xs) xs set [] (ap (λ (r : Reading). passing r xs) e ∙ passing-frames set xs) ∙ rw (append-nil xs)
 whole-more line x xs Over e = over-from 0 resetState zeroWords line (x ∷ xs) xs [] (ap (λ (r : Reading). passing r xs) e ∙ passing-over xs)
 
--- an LF is no digit
-lf-digit : digitNumber 10 ≡ 16
-unfolding digitNumber placeIn hexDigits
-lf-digit = refl
-
-pub lf-second : (high x : ℕ) → x ≡ 10 → (ltb (digitNumber x) 16 && isSet (16 * high + digitNumber x)) ≡ false
-lf-second high x e = rw (e, lf-digit)
-
-pub lf-first : (x : ℕ) → x ≡ 10 → isSet (16 * digitNumber x) ≡ false
-unfolding isSet labelSets
-lf-first x e = rw (e, lf-digit)
-
--- an empty text has an empty log
-empty-log : (set : ℕ) → programLog set [] ≡ []
-unfolding programLog linesFrom linesOutcome logOf
-empty-log set = refl
-
-by-refusal : (begun xs : List ℕ) → isSetLine (begun ++ firstLine xs) ≡ false → refusal ≡ byFirst begun xs
-by-refusal begun xs e = rw e
-
--- at the end of the input
-whole-end : (line : SetLine) → whole (FirstLine line) [] ≡ cond (hasSet line) [] refusal
-unfolding piecesLog fedInput fedPast endedInput endedFirst passing
-whole-end line = refl
-
-module _ (a b : ℕ) (s : isSetLine (a ∷ b ∷ []) ≡ true) where
-  abbrev set : ℕ
-  set = number (a ∷ b ∷ [])
-
-  after-both : (xs : List ℕ) → whole (FirstLine (Number set)) xs ≡ byFirst (a ∷ b ∷ []) xs
-  unfolding hasSet
-  after-both [] = whole-end (Number set) ∙ rw (first-none, past-none, s) (sym (empty-log set))
-  after-both (x ∷ xs) = by (ℕ-discrete x 10)
-    where
-      by : Dec (x ≡ 10) → whole (FirstLine (Number set)) (x ∷ xs) ≡ byFirst (a ∷ b ∷ []) (x ∷ xs)
-      by (yes e) = whole-more (Number set) x xs (Frames set) (heard-lf x set e) ∙ rw (first-lf x xs e, past-lf x xs e, s)
-      by (no e) = whole-more (Number set) x xs Over (heard-other x set e) ∙ by-refusal (a ∷ b ∷ []) (x ∷ xs) (rw (first-more x xs e) (none-long a b x (firstLine xs)))
-
-module _ (a : ℕ) (d : ltb (digitNumber a) 16 ≡ true) where
-  after-one : (xs : List ℕ) → whole (FirstLine (Digit (digitNumber a))) xs ≡ byFirst (a ∷ []) xs
-  unfolding hasSet
-  after-one [] = whole-end (Digit (digitNumber a)) ∙ by-refusal (a ∷ []) [] (rw first-none (none-short a))
-  after-one (x ∷ xs) = by (ℕ-discrete x 10) (ltb (digitNumber x) 16 && isSet (pair a x)) refl
-    where
-      by : Dec (x ≡ 10) → (t : Bool) → (ltb (digitNumber x) 16 && isSet (pair a x)) ≡ t → whole (FirstLine (Digit (digitNumber a))) (x ∷ xs) ≡ byFirst (a ∷ []) (x ∷ xs)
-      by (yes e) t q =
-          whole-more (Digit (digitNumber a)) x xs Over (heard-no-second x (digitNumber a) (lf-second (digitNumber a) x e)) ∙ by-refusal (a ∷ []) (x ∷ xs) (rw (first-lf x xs e) (none-short a))
-      by (no e) true q =
-          let both : whole (FirstLine (Number (pair a x))) xs ≡ byFirst (a ∷ x ∷ []) xs = rw (← pair-is a x) (after-both a x (is-second a x d q) xs) in
-          let on : byFirst (a ∷ x ∷ []) xs ≡ byFirst (a ∷ []) (x ∷ xs) = rw (first-more x xs e, past-on x xs e) in
-          whole-more (Digit (digitNumber a)) x xs (FirstLine (Number (pair a x))) (heard-second x (digitNumber a) q) ∙ both ∙ on
-      by (no e) false q =
-          whole-more (Digit (digitNumber a)) x xs Over (heard-no-second x (digitNumber a) q)
-          ∙ by-refusal (a ∷ []) (x ∷ xs) (rw (first-more x xs e) (none-second a x q (firstLine xs)))
-
-pub first-digit : (x : ℕ) → isSet (16 * digitNumber x) ≡ true → ltb (digitNumber x) 16 ≡ true
-unfolding isSet labelSets
-first-digit x e = let h = ltb-true (16 * digitNumber x) 2 e in lt-ltb (digitNumber x) 16 (omega arith)
-
-after-none : (xs : List ℕ) → whole (FirstLine Nothing) xs ≡ byFirst [] xs
-unfolding hasSet
-after-none [] = whole-end Nothing ∙ by-refusal [] [] (rw first-none none-empty)
-after-none (x ∷ xs) = by (ℕ-discrete x 10) (isSet (16 * digitNumber x)) refl
-  where
-    by : Dec (x ≡ 10) → (t : Bool) → isSet (16 * digitNumber x) ≡ t → whole (FirstLine Nothing) (x ∷ xs) ≡ byFirst [] (x ∷ xs)
-    by (yes e) t q =
-        whole-more Nothing x xs Over (heard-no-first x (lf-first x e)) ∙ by-refusal [] (x ∷ xs) (rw (first-lf x xs e) none-empty)
-    by (no e) true q =
-        let on : byFirst (x ∷ []) xs ≡ byFirst [] (x ∷ xs) = rw (first-more x xs e, past-on x xs e) in
-        whole-more Nothing x xs (FirstLine (Digit (digitNumber x))) (heard-first x q) ∙ after-one x (first-digit x q) xs ∙ on
-    by (no e) false q =
-        whole-more Nothing x xs Over (heard-no-first x q) ∙ by-refusal [] (x ∷ xs) (rw (first-more x xs e) (none-first x q (firstLine xs)))
+-- at the end of the input: an empty text has an empty log
+whole-end : (line : SetLine) → whole line [] ≡ atEnd whole programLog refusal line
+unfolding piecesLog fedInput fedPast endedInput endedFirst passing hasSet programLog linesFrom linesOutcome logOf
+whole-end Nothing = refl
+whole-end (Digit high) = refl
+whole-end (Number set) = refl
 
 pub input-joined : InputJoined
 unfolding inputLog
-input-joined pieces = as-one 0 resetState zeroWords Nothing pieces ∙ after-none (joined pieces)
+input-joined pieces = as-one 0 resetState zeroWords Nothing pieces ∙ by-first whole programLog refusal whole-end whole-more (joined pieces)

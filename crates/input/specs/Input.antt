@@ -11,6 +11,8 @@ use Rattle.logline.specs.Labels.{isSet}
 use Rattle.logline.specs.LogLine.{refusal}
 use Rattle.log.specs.Log.{logOf, textOutcome, pieceOutcome}
 use Rattle.log.specs.Promises.{programLog}
+use Rattle.input.specs.declared.Chosen.{Chosen}
+use Rattle.input.specs.declared.Chosen.the-variants.{Set, Unknown}
 use Rattle.input.specs.declared.Reading.{Reading}
 use Rattle.input.specs.declared.Reading.the-variants.{FirstLine, Frames, Over}
 use Rattle.input.specs.declared.SetLine.{SetLine}
@@ -26,6 +28,10 @@ isSetLine line = eqb (length line) 2 && (allDigits line && isSet (number line))
 -- names no set, the set is unknown, and nothing is run.
 unfoldable pub inputLog : List ℕ → List ℕ
 inputLog input = let line = lineAt input 0 in cond (isSetLine line) (programLog (number line) (drop (pastLine input 0) input)) refusal
+
+-- the set that the first line of an input chooses
+unfoldable pub chosenIn : List ℕ → Chosen
+chosenIn input = let line = lineAt input 0 in cond (isSetLine line) (Set (number line)) Unknown
 
 -- ---- the set line, byte by byte
 

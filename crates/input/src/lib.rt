@@ -11,7 +11,7 @@ ghost use Rattle.output.specs.Wrote.{Wrote};
 ghost use Rattle.log.specs.Results.{begunOf};
 ghost use Rattle.input.specs.declared.Reading.the-variants.{FirstLine};
 ghost use Rattle.input.specs.declared.SetLine.the-variants.{Nothing};
-ghost use Rattle.input.specs.Input.{refusalAfter, hasSet, heard};
+ghost use Rattle.input.specs.Input.{refusalAfter, chosenIn, hasSet, heard};
 ghost use Rattle.input.specs.Results.{PassedBy, FeedPromised, FinishPromised};
 use controller::Controller;
 use log::Logged;
@@ -31,6 +31,12 @@ pub enum Reading {
     FirstLine(SetLine),
     Frames(u32),
     Over,
+}
+
+// The set that a first line chooses.
+pub enum Chosen {
+    Set(u32),
+    Unknown,
 }
 
 pub struct Input {
@@ -140,6 +146,23 @@ fn set_line_passed(reading: Reading, piece: &[u8]) -> Passed
     Passed {
         reading: r,
         next: at,
+    }
+}
+
+// The set that the first line of a whole input chooses, ended by LF or by the end of the input.
+pub fn set_of(input: &[u8]) -> Chosen
+    ensures { λ r. ⌜ r ≡ chosenIn (now (input .entry)) ⌝ }
+{
+    let p = set_line_passed(Reading::FirstLine(SetLine::Nothing), input);
+    let reading = p.reading;
+    match reading {
+        Reading::FirstLine(line) => match line {
+            SetLine::Nothing => Chosen::Unknown,
+            SetLine::Digit(high) => Chosen::Unknown,
+            SetLine::Number(set) => Chosen::Set(set),
+        },
+        Reading::Frames(set) => Chosen::Set(set),
+        Reading::Over => Chosen::Unknown,
     }
 }
 

@@ -1,13 +1,15 @@
 // The HEX program: a controller fresh from reset over 4,096 words of zeros from address 0, a HEX text loaded before its frames, or
 // the memory exported after them. Standard input has at most 1,048,576 bytes: the set line; a mode line, `E`, or `L` and the length
-// of a HEX text in eight digits; after `L` that text; frames. What a text and a piece of frames do is proved of `hex_load`,
-// `hex_export` and `log`; that they come in this order is read here and tested.
+// of a HEX text in eight digits; after `L` that text; frames. Which set a first line chooses, and what a text
+// and a piece of frames do, is proved of `input`, `hex_load`, `hex_export` and `log`; that they come in this order is read here and
+// tested.
 ghost use Prim.Native.Nat.{_≤_, _<_};
 ghost use mathlib.Core.Path.{_≡_};
 ghost use mathlib.Core.Bool.{true};
 ghost use lib.ListN.{length};
 ghost use Rattle.log.specs.Results.{isWithin};
 use hex_export::Exported;
+use input::Chosen;
 use libc::STDERR_FILENO;
 use libc::STDIN_FILENO;
 use libc::STDOUT_FILENO;
@@ -136,21 +138,6 @@ fn load(memory: &mut [u32], text: &[u8], frames: &[u8], out: &mut [u8], set: u32
 
 // ---- the input
 
-fn wide(b: u8) -> u32 {
-    b as u32
-}
-
-// The number of a line that is a zero and a digit; of any other, one that no set has.
-fn set_in(line: &[u8]) -> u32 {
-    if line.len() != 2 {
-        return 0xFF;
-    }
-    if line[0] != b'0' {
-        return 0xFF;
-    }
-    wide(hex::digit_number(line[1]))
-}
-
 // What a mode line asks for: an export, or a load of a text of so many bytes.
 enum Mode {
     Export,
@@ -211,12 +198,14 @@ fn run_mode(text: &[u8], memory: &mut [u32], out: &mut [u8], set: u32) -> Ended 
 }
 
 fn run(text: &[u8], memory: &mut [u32], out: &mut [u8]) -> Ended {
-    let set = set_in(lines::line_at(text, 0));
-    if logline::is_set(set) {
-        let past = lines::past_line(text, 0);
-        return run_mode(&text[past..], memory, out, set);
+    let chosen = input::set_of(text);
+    match chosen {
+        Chosen::Set(set) => {
+            let past = lines::past_line(text, 0);
+            run_mode(&text[past..], memory, out, set)
+        }
+        Chosen::Unknown => refuse_set(out),
     }
-    refuse_set(out)
 }
 
 // Whether the input ended after so many bytes. A read that failed does so again.
