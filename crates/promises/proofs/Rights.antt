@@ -9,7 +9,7 @@ use native.Mathlib.Omega.{arith}
 use lib.Dec.{eqb, leb, eqb·suc-zero}
 use lib.ListN.{length, drop, length-append, length-drop}
 use Rattle.machine.specs.Words.{bit, anyOf, written}
-use Rattle.machine.specs.Sides.{Side, pci, addon}
+use Rattle.machine.specs.Sides.{Side, pci, addon, host}
 use Rattle.machine.specs.State.{State, lane, held, resetState}
 use Rattle.machine.specs.Access.{Access, accessOf, kindOf, cycles, isReset, writes}
 use Rattle.machine.specs.Offsets.{countAt}
@@ -83,7 +83,7 @@ count-turned side e old = by side
     n : Named (s .kind)
     n = named (s .kind)
 
-    by : (of : Side) → cond (writes pci (countAt of) (accessOf s)) (written countKept old (s .value) (s .enables)) (cond (cycles of (kindOf (s .kind))) (countLeft old) old) ≡ bytesThen of e old
+    by : (of : Side) → cond (writes host (countAt of) (accessOf s)) (written countKept old (s .value) (s .enables)) (cond (cycles of (kindOf (s .kind))) (countLeft old) old) ≡ bytesThen of e old
     by pci = λ i. cond (n .pciWrite i && eqb (s .offset) 0x30) (written-is i) (cond (n .readCycle i) (countLeft old) old)
     by addon = λ i. cond (n .pciWrite i && eqb (s .offset) 0x28) (written-is i) (cond (n .writeCycle i) (countLeft old) old)
 
@@ -93,7 +93,7 @@ unfolding mcsrAfter
 mcsr-turned k h one kept e old =
     let s = e .step in
     let w = eqb (s .kind) 1 && eqb (s .offset) 0x3C in
-    cond-part (λ (r : ℕ). bit r k) (writes pci 0x3C (accessOf s)) (written mcsrKept old (s .value) (s .enables)) old
+    cond-part (λ (r : ℕ). bit r k) (writes host 0x3C (accessOf s)) (written mcsrKept old (s .value) (s .enables)) old
     ∙ (λ i. cond (named (s .kind) .pciWrite i && eqb (s .offset) 0x3C) (bit-written k h mcsrKept old (s .value) (s .enables) i) (bit old k))
     ∙ rw (one, kept) (both w (bit (s .enables) 1) (bit (s .value) k) (bit old k))
   where
