@@ -1,16 +1,22 @@
 -- The reading is over as soon as the first line can be none of a set, and not before; and what else is promised of inputs.
-use Prim.Native.Nat.{ℕ, _+_, _*_}
+use Prim.Native.Nat.{ℕ, zero, suc, _+_, _*_}
 use mathlib.Core.Path.{_≡_, refl, sym, ap, _∙_}
-use mathlib.Core.Bool.{Bool, true, false, _&&_, true≢false}
+use mathlib.Core.Bool.{Bool, true, false, cond, _&&_, true≢false}
 use mathlib.Core.List.{List, [], _∷_, _++_, append-assoc}
 use native.Mathlib.Omega.{arith}
 use native.Mathlib.Decide.{ℕ-discrete}
+use borrow.Author.Tests.{ltb-true}
+use lib.ListN.{drop}
 use lib.Dec.{ltb}
-use Rattle.hex.specs.Hex.{hexDigits, placeIn, digitNumber, digitOf, allDigits, numberFrom, number, digits}
+use Rattle.hex.specs.Hex.{bytes, hexDigits, placeIn, digitNumber, digitOf, allDigits, numberFrom, number, digits}
 use Rattle.logline.specs.Labels.{labelSets, isSet}
+use Rattle.logline.specs.LogLine.{refusal}
 use Rattle.logline.proofs.Labels.{every}
 use Rattle.logline.proofs.Bytes.{every-digits}
+use Rattle.logline.proofs.Room.{refusal-line}
+use Rattle.lines.specs.Lines.{linesFrom, untilLf, lineAt, lineEnd, pastLine}
 use Rattle.laws.proofs.Below.{both}
+use Rattle.log.specs.Log.{logOf, linesOutcome}
 use Rattle.log.specs.Promises.{programLog}
 use Rattle.log.specs.Cut.{cut}
 use Rattle.log.proofs.Bodies.{isOther, not-lf}
@@ -20,9 +26,9 @@ use Rattle.input.specs.declared.Reading.the-variants.{FirstLine, Frames,
 use Rattle.input.specs.declared.SetLine.{SetLine}
 use Rattle.input.specs.declared.SetLine.the-variants.{Nothing, Digit, Number}
 use Rattle.input.specs.Input.{isSetLine, inputLog, heard, passing}
-use Rattle.input.specs.Promises.{OverAtOnce, SetChosen, InputsCut}
+use Rattle.input.specs.Promises.{OverAtOnce, SetChosen, InputsCut, UnknownSet, SetAtEnd}
 use Rattle.input.proofs.Passing.{heard-lf, heard-other, heard-second, heard-no-second, heard-first, heard-no-first}
-use Rattle.input.proofs.FirstLine.{firstLine, first-none, first-lf, first-more, past, past-lf, past-on, none-empty, none-short, none-long, pair, none-second, is-second, none-first, set-line-read}
+use Rattle.input.proofs.FirstLine.{firstLine, first-none, first-lf, first-more, past, past-lf, past-on, none-empty, none-short, none-long, pair, none-second, is-second, none-first, set-line-read, set-line-only}
 use Rattle.input.proofs.ByFirst.{lf-first, lf-second, first-digit}
 
 -- ---- over at once
@@ -140,3 +146,28 @@ set-chosen set text s =
 
 pub inputs-cut : InputsCut
 inputs-cut set other text s o = ap cut (set-chosen set text s) ∙ cut-same set other text ∙ sym (ap cut (set-chosen other text o))
+
+-- ---- a first line that is none of a set, and one that the end of the input ends
+
+two-digits : (digits 2 0 ≡ bytes "00") × (digits 2 1 ≡ bytes "01")
+unfolding digits digitOf hexDigits
+two-digits = (refl, refl)
+
+-- a set's line is one of the two
+one-of-two : (line : List ℕ) (set : ℕ) → isSet set ≡ true → line ≡ digits 2 set → (line ≡ bytes "00" → ⊥) → (line ≡ bytes "01" → ⊥) → ⊥
+unfolding isSet labelSets
+one-of-two line zero s l e f = e (l ∙ two-digits .0)
+one-of-two line (suc zero) s l e f = f (l ∙ two-digits .1)
+one-of-two line (suc (suc n)) s l e f = let h = ltb-true (suc (suc n)) 2 s in absurd (omega arith)
+
+pub unknown-set : UnknownSet
+unfolding inputLog
+unknown-set input e f = by (isSetLine (lineAt input 0)) refl
+  where
+    by : (t : Bool) → isSetLine (lineAt input 0) ≡ t → cond t (programLog (number (lineAt input 0)) (drop (pastLine input 0) input)) refusal ≡ bytes "0F0000000000000000000 unknown label set\n"
+    by true q = let o = set-line-only (lineAt input 0) q in absurd (one-of-two (lineAt input 0) (number (lineAt input 0)) (o .0) (o .1) e f)
+    by false q = refusal-line
+
+pub set-at-end : SetAtEnd
+unfolding inputLog lineAt untilLf isSetLine allDigits digitNumber placeIn hexDigits isSet labelSets numberFrom pastLine lineEnd programLog linesFrom linesOutcome logOf
+set-at-end = (refl, refl)

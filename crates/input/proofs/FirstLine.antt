@@ -4,20 +4,20 @@
 --     none-short, none-long, none-first, none-second    lines that are none of a set
 use Prim.Native.Nat.{ℕ, zero, suc, _+_, _*_, _≤_, _<_, _^_}
 use mathlib.Core.Path.{_≡_, refl, sym, _∙_}
-use mathlib.Core.Bool.{Bool, true, false, cond, _&&_, true≢false}
-use mathlib.Core.List.{List, [], _∷_, _++_}
+use mathlib.Core.Bool.{Bool, true, false, _&&_, true≢false}
+use mathlib.Core.List.{List, [], _∷_}
 use native.Mathlib.Numerals.{add-one}
 use native.Mathlib.Omega.{arith}
 use native.Mathlib.Decide.{decLt}
 use borrow.Author.Tests.{eqb-true, ltb-true, lt-ltb, le-ltb, ne-eqb}
-use lib.ListN.{length, take, drop}
+use lib.ListN.{length, drop}
 use lib.Dec.{eqb, ltb}
-use Rattle.hex.specs.Hex.{digitNumber, allDigits, numberFrom, number, digits}
+use Rattle.hex.specs.Hex.{digitNumber, allDigits, numberFrom, number}
 use Rattle.laws.proofs.Below.{both}
 use Rattle.hex.proofs.Numbers.{length-digits, digits-are, number-digits, digits-number}
 use Rattle.lines.specs.Lines.{untilLf, lineEnd, lineAt, pastLine}
 use Rattle.lines.proofs.Positions.{until-lf, until-more, past-more, past-last}
-use Rattle.logline.specs.Labels.{english, german, labelSets, isSet}
+use Rattle.logline.specs.Labels.{labelSets, isSet}
 use Rattle.input.specs.Input.{isSetLine}
 use Rattle.input.specs.Promises.{SetLineRead, SetLineOnly}
 

@@ -5,7 +5,7 @@ use mathlib.Core.List.{List, [], _∷_, _++_}
 use mathlib.Core.Bool.{true, false}
 use Rattle.machine.specs.State.{State, resetState}
 use Rattle.machine.specs.Window.{zeroWords}
-use Rattle.hex.specs.Hex.{number, digits}
+use Rattle.hex.specs.Hex.{bytes, number, digits}
 use Rattle.lines.specs.Lines.{lf, lineAt}
 use Rattle.logline.specs.Labels.{isSet}
 use Rattle.log.specs.Promises.{joined, programLog}
@@ -54,3 +54,11 @@ abbrev pub InputsCut : Type 0
 InputsCut =
     (set other : ℕ) (text : List ℕ) → isSet set ≡ true → isSet other ≡ true
     → cut (inputLog (digits 2 set ++ (lf ∷ text))) ≡ cut (inputLog (digits 2 other ++ (lf ∷ text)))
+
+-- `unknown-set`: a first line that is neither 00 nor 01, also an empty one or none: the log is the one line of code 15, whatever follows
+abbrev pub UnknownSet : Type 0
+UnknownSet = (input : List ℕ) → (lineAt input 0 ≡ bytes "00" → ⊥) → (lineAt input 0 ≡ bytes "01" → ⊥) → inputLog input ≡ bytes "0F0000000000000000000 unknown label set\n"
+
+-- `set-at-end`: a set line that the end of the input ends, without LF, is one: it is not refused, and the log is empty
+abbrev pub SetAtEnd : Type 0
+SetAtEnd = (inputLog (bytes "00") ≡ []) × (inputLog (bytes "01") ≡ [])

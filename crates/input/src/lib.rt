@@ -1,6 +1,5 @@
 // What the log program reads: a first line with the number of a label set, then frames; in pieces that end anywhere.
 ghost use mathlib.Core.Path.{_≡_};
-ghost use mathlib.Core.Bool.{cond};
 ghost use mathlib.Core.List.{[]};
 ghost use Prim.Native.Nat.{_≤_};
 ghost use lib.ListN.{length};

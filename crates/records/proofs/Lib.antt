@@ -6,3 +6,4 @@ pub mod Induction
 pub mod Promises
 pub mod Exactly
 pub mod Length
+pub mod Loads

@@ -49,7 +49,7 @@ said-end : (g upper a : ℕ) → length endText ≤ g → saidFrom g upper endTe
 unfolding texts run
 said-end g upper a h = said-step endRecord [] good-end g upper h ∙ said-none (less g) upper
 
-same-upper : (u : ℕ) → u / 256 * 256 + u % 256 ≡ u
+pub same-upper : (u : ℕ) → u / 256 * 256 + u % 256 ≡ u
 same-upper u = omega arith
 
 said-upper : (g upper u : ℕ) (rest : List ℕ) → u < 65536 → length (textOf (upperRecord u) ++ rest) ≤ g → saidFrom g upper (textOf (upperRecord u) ++ rest) ≡ saidFrom (less g) u rest

@@ -36,6 +36,7 @@ exportCases =
     ∷ record { start = 4; words = 1 ∷ 2 ∷ 3 ∷ 4 ∷ 5 ∷ []; text = ":020000040000FA\n:1000040001000000020000000300000004000000E2\n:0400140005000000E3\n:00000001FF\n" }
     ∷ []
 
+-- `exports-hold`: each of these windows exports to its text
 abbrev pub ExportsHold : Type 0
 ExportsHold = map (λ (c : ExportCase). exportOf (c .start) (c .words)) exportCases ≡ map (λ (c : ExportCase). bytes (c .text)) exportCases
 
@@ -140,6 +141,7 @@ loadCases =
 abbrev expected : LoadCase → Load
 expected c = record { code = c .code; words = c .after }
 
+-- `loads-hold`: each of these texts is answered by its code, and leaves its words
 abbrev pub LoadsHold : Type 0
 LoadsHold =
     map (λ (c : LoadCase). loadOf (c .start) (c .words) (bytes (c .text))) loadCases

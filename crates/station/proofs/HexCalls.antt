@@ -6,6 +6,7 @@ use Prim.Native.Nat.{ℕ, zero, suc, _-_, _*_, _%_, _^_, min, _<_, _≤_}
 use mathlib.Core.Path.{_≡_, refl, sym, ap, _∙_}
 use mathlib.Core.Bool.{Bool, true, false, cond}
 use mathlib.Core.List.{List, _++_}
+use native.Mathlib.Nat.{le-refl}
 use native.Mathlib.Omega.{arith}
 use lib.IntN.{ℤ, pos, negsuc, negℤ, _-ℤ_}
 use lib.ListN.{length, drop, length-append, length-drop}
@@ -20,6 +21,7 @@ use Rattle.records.specs.Load.{codeFrom, codeOf, said, stored, loadOf}
 use Rattle.records.specs.Export.{exportOf, exportLength}
 use Rattle.records.proofs.Length.{export-length}
 use Rattle.records.proofs.Promises.{good-window}
+use Rattle.records.proofs.Loads.{text-code-is, unsaid-stays, later-holds}
 use Rattle.hex_export.specs.declared.Exported.the-variants.{Written, Refused}
 use Rattle.hex_export.specs.Results.{Export, lengthOf, exportedTo}
 use Rattle.station.specs.HexCalls.{minusCode, exportedNumber, Fits, lengthResult, ExportUnique, LoadUnique, LengthRule, ExportRule, LoadRule}
@@ -111,6 +113,10 @@ export-rule start words output r after p =
           (p .result ∙ q .0, e, rw e (simp (length-append, length-drop, long start words output f) (omega (arith, h))));
     }
 
+no-minus : (code : ℕ) → minusCode code ≡ pos 0 → code ≡ 0
+no-minus zero e = refl
+no-minus (suc code) e = let w : _≡_ {A = ℕ} 0 1 = cc in absurd (omega arith)
+
 module _ (start : ℕ) (words text : List ℕ) where
   load-bad : isWindowOutOfForm start (length words) ≡ true → (minusCode (loadOf start words text .code) ≡ negsuc 1) × (loadOf start words text .words ≡ words)
   unfolding codeOf loadOf
@@ -128,6 +134,11 @@ pub load-rule : LoadRule
 load-rule start words text r after p =
     record {
       outOfForm = λ f. let q = load-bad start words text f in (p .result ∙ q .0, p .stored ∙ q .1);
-      refused = λ f n c. let q = load-refused start words text f n c in (p .result ∙ q .0, p .stored ∙ q .1);
+      refused = λ f n c.
+          let q = load-refused start words text f n c in
+          let few = text-code-is (length text) start (length words) 0 text (le-refl (length text)) .few n c in
+          (p .result ∙ q .0, few .0, few .1, p .stored ∙ q .1);
       loaded = λ f c. let q = load-done start words text f c in (p .result ∙ q .0, p .stored ∙ q .1);
+      unsaid = λ i n. rw (p .stored) (unsaid-stays start i words text n);
+      later = λ z i before s more e k l n. rw (p .stored) (later-holds start i words text before s more (no-minus (loadOf start words text .code) (sym (p .result) ∙ z)) e k l n);
     }

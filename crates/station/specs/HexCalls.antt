@@ -1,14 +1,15 @@
 -- The C calls for windows as HEX text (document 02, Ask 7): what they return, and what they leave in the output and in the window.
-use Prim.Native.Nat.{ℕ, suc, _^_, _<_, _≤_}
+use Prim.Native.Nat.{ℕ, suc, _*_, _^_, _<_, _≤_}
 use mathlib.Core.Path.{_≡_}
 use mathlib.Core.Bool.{true, false}
-use mathlib.Core.List.{List, _++_}
+use mathlib.Core.List.{List, _∷_, _++_}
 use lib.IntN.{ℤ, pos, negsuc, negℤ}
-use lib.ListN.{length, drop}
+use lib.ListN.{length, getD, drop}
 use Rattle.machine.specs.Window.{isWindowOutOfForm}
-use Rattle.records.specs.Window.{windowBytes, windowWords}
+use Rattle.records.specs.Window.{windowBytes, windowWords, bytePlace}
 use Rattle.records.specs.Export.{exportOf, exportLength}
-use Rattle.records.specs.Load.{codeFrom, said, stored, loadOf}
+use Rattle.records.specs.Load.{codeFrom, Said, said, stored, loadOf}
+use Rattle.records.specs.Promises.{NoneAt}
 use Rattle.hex_export.specs.declared.Exported.{Exported}
 use Rattle.hex_export.specs.declared.Exported.the-variants.{Written, Refused}
 use Rattle.hex_export.specs.Results.{lengthOf, exportedTo}
@@ -67,14 +68,20 @@ pub record ExportByNumbers (start : ℕ) (words output : List ℕ) (r : ℤ) (af
 pub record LoadByNumbers (start : ℕ) (words text : List ℕ) (r : ℤ) (after : List ℕ) : Type 0 where
   -- a window out of form: -2, and the window is as it was
   pub outOfForm : isWindowOutOfForm start (length words) ≡ true → (r ≡ negsuc 1) × (after ≡ words)
-  -- one in form, with a text to which a code applies: that code with a minus, and the window is as it was
+  -- one in form, with a text to which a code applies: that code with a minus, -16 to -19, and the window is as it was
   pub refused :
       isWindowOutOfForm start (length words) ≡ false → (n : ℕ) → codeFrom (length text) start (length words) 0 text ≡ suc n
-      → (r ≡ negsuc n) × (after ≡ words)
+      → (r ≡ negsuc n) × (15 ≤ n) × (n ≤ 18) × (after ≡ words)
   -- else 0, and the window has what the text says
   pub loaded :
       isWindowOutOfForm start (length words) ≡ false → codeFrom (length text) start (length words) 0 text ≡ 0
       → (r ≡ pos 0) × (after ≡ windowWords (stored start (windowBytes words) (said text)))
+  -- a byte that is in no record stays, whatever is returned
+  pub unsaid : (p : ℕ) → NoneAt start p (said text) → getD (windowBytes after) p 0 ≡ getD (windowBytes words) p 0
+  -- where 0 is returned, of what records say of one byte the last holds
+  pub later :
+      r ≡ pos 0 → (p : ℕ) (before : List Said) (s : Said) (more : List Said) → said text ≡ before ++ (s ∷ more) → p ≡ bytePlace start (s .address) → p < 4 * length words → NoneAt start p more
+      → getD (windowBytes after) p 0 ≡ s .byte
 
 -- `length-rule`, `export-rule`, `load-rule`: whatever window, output and text are, that is what the calls promise
 abbrev pub LengthRule : Type 0
