@@ -16,7 +16,6 @@ use controller::Controller;
 use log::Logged;
 use log::Stream;
 use logline::LINE_ROOM;
-use machine::codes;
 
 // What has come of the set line: nothing, a digit, both of them.
 pub enum SetLine {
@@ -172,7 +171,7 @@ fn put_refusal(out: &mut [u8]) -> usize
     requires { ⌜ lineRoom ≤ length (now out) ⌝ }
     ensures { λ r. ⌜ Wrote (now (out .entry)) 0 refusal r (now (out .exit)) ⌝ }
 {
-    logline::put_refusal(out, codes::UNKNOWN_LABEL_SET, logline::ENGLISH)
+    logline::put_unknown_set(out)
 }
 
 // The same, where the piece has ended a reading that had not ended before.

@@ -4,10 +4,11 @@ ghost use Prim.Native.Nat.{_+_, _≤_};
 ghost use mathlib.Core.Bool.{cond};
 ghost use mathlib.Core.List.{_++_};
 ghost use lib.ListN.{length};
+ghost use Rattle.machine.specs.Codes.{unknownLabelSet};
 ghost use Rattle.hex.specs.Hex.{bytes, digits};
 ghost use Rattle.eight.specs.Written.{bytesOf};
 ghost use Rattle.output.specs.Wrote.{Wrote};
-ghost use Rattle.logline.specs.Labels.{english, german, isSet, labelIn, labelOf};
+ghost use Rattle.logline.specs.Labels.{english, german, englishSet, isSet, labelIn, labelOf};
 ghost use Rattle.logline.specs.LogLine.{numbers, refusing, lineIn};
 use machine::Answer;
 
@@ -249,7 +250,19 @@ pub fn put_line(out: &mut [u8], at: usize, a: Answer, set: u32) -> usize
     end + 1
 }
 
-// Writes the line of a refusal that answers no step and no line, with the label of a set, at the output's start, and answers the place
+// Writes the line that refuses an unknown label set, with its English label, at the output's start, and answers the place past
+// it. Where there is no room for 41 bytes it writes nothing. (Its bytes stand here, since a second call of `put_line` beside the one in
+// the loop over a piece would take that out of the loop, and make it slower.)
+pub fn put_unknown_set(out: &mut [u8]) -> usize
+    ensures { λ r. ⌜ Wrote (now (out .entry)) 0 (lineIn englishSet (now (out .entry)) 0 (refusing unknownLabelSet)) r (now (out .exit)) ⌝ }
+{
+    if out.len() < LINE_ROOM {
+        return 0;
+    }
+    put(out, 0, b"0F0000000000000000000 unknown label set\n")
+}
+
+// Writes the line of any refusal that answers no step and no line, with the label of a set, at the output's start, and answers the place
 // past it. Where there is no room for 41 bytes it writes nothing.
 pub fn put_refusal(out: &mut [u8], code: u32, set: u32) -> usize
     ensures { λ r. ⌜ Wrote (now (out .entry)) 0 (lineIn set (now (out .entry)) 0 (refusing code)) r (now (out .exit)) ⌝ }

@@ -68,7 +68,7 @@ fn write_log(log: Logged, out: &[u8], is_shown: bool) -> bool
 
 // Writes the line that refuses an unknown set; below, a HEX text.
 fn refuse_set(out: &mut [u8]) -> Ended {
-    let n = logline::put_refusal(out, codes::UNKNOWN_LABEL_SET, logline::ENGLISH);
+    let n = logline::put_unknown_set(out);
     after_write(write_first(out, n), Ended::UnknownSet)
 }
 

@@ -11,7 +11,7 @@ returns : tie.Need-returns
 unfolding refusal
 returns c =
     let s = c .before .before .before .before .before in
-    rw (in-room 0 (now (s .args .out)) 0 (refusing unknownLabelSet) (omega (arith, s .pre))) at (c .before .before .put-refusal .ensures)
+    rw (in-room 0 (now (s .args .out)) 0 (refusing unknownLabelSet) (omega (arith, s .pre))) at (c .before .before .put-unknown-set .ensures)
 
 pub put-refusal-spec : {M : Type 1} → statement M
 put-refusal-spec = tie.close (tie.spec (λ c κs. search needs) (λ c. search needs) returns)
