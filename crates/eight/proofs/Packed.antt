@@ -11,7 +11,7 @@ use lib.ListN.{length, replicate, length-map}
 use borrow.Author.Tests.{ltb-true, eqb-true, eq-eqb, ne-eqb}
 use Rattle.hex.specs.Hex.{hexDigits, placeIn, digitNumber, allDigits, numberFrom}
 use Rattle.laws.proofs.Below.{both, below-at}
-use Rattle.eight.specs.Packed.{packed, apart, Each, numberIn, numbersIn, saidIn, bytesOr}
+use Rattle.eight.specs.Packed.{packed, Each, numberIn, numbersIn, joinedFrom}
 
 -- ---- masks
 
@@ -191,11 +191,6 @@ digits-packed bs d n e q =
 
 -- ---- the numbers of digits joined
 
--- the number that the numbers of digits make, the highest first, after those that make n
-abbrev pub joinedFrom : ℕ → List ℕ → ℕ
-joinedFrom n [] = n
-joinedFrom n (d ∷ ds) = joinedFrom (n * 16 + d) ds
-
 pub numbers-of-digits : (bs : List ℕ) → Each 256 bs → allDigits bs ≡ true → (n : ℕ) → Each 16 (numbersIn bs) × (joinedFrom n (numbersIn bs) ≡ numberFrom n bs)
 unfolding allDigits numberFrom
 numbers-of-digits [] e d n = (tt, refl)
@@ -235,39 +230,28 @@ picked xs bs ms e f g = let o = or-lists xs bs e f in rw (o .0) (and-lists (ors 
 pub all-255 : (x : ℕ) → x < 256 → bitAnd x 255 ≡ x
 all-255 x h = let m : bitAnd x 255 ≡ x % 256 = and-mask x 8 in omega arith
 
--- four bytes in 16 bits each are packed with zeros between them
-apart-packed : (p q s t : ℕ) → apart (p ∷ q ∷ s ∷ t ∷ []) ≡ packed (p ∷ 0 ∷ q ∷ 0 ∷ s ∷ 0 ∷ t ∷ 0 ∷ [])
-apart-packed p q s t = omega arith
-
-pub pairs-joined : (n0 n1 n2 n3 n4 n5 n6 n7 d : ℕ) → Each 16 (n0 ∷ n1 ∷ n2 ∷ n3 ∷ n4 ∷ n5 ∷ n6 ∷ n7 ∷ []) → d ≡ packed (n0 ∷ n1 ∷ n2 ∷ n3 ∷ n4 ∷ n5 ∷ n6 ∷ n7 ∷ [])
-    → bitAnd (d * 0x10 + d / 0x100) 0x00FF_00FF_00FF_00FF ≡ apart ((n0 * 16 + n1) ∷ (n2 * 16 + n3) ∷ (n4 * 16 + n5) ∷ (n6 * 16 + n7) ∷ [])
-pairs-joined n0 n1 n2 n3 n4 n5 n6 n7 d e q =
-    let sum : d * 0x10 + d / 0x100 ≡ packed ((n0 * 16 + n1) ∷ (n1 * 16 + n2) ∷ (n2 * 16 + n3) ∷ (n3 * 16 + n4) ∷ (n4 * 16 + n5) ∷ (n5 * 16 + n6) ∷ (n6 * 16 + n7) ∷ (n7 * 16) ∷ []) = omega arith in
-    rw (sum, apart-packed (n0 * 16 + n1) (n2 * 16 + n3) (n4 * 16 + n5) (n6 * 16 + n7))
-    (and-lists ((n0 * 16 + n1) ∷ (n1 * 16 + n2) ∷ (n2 * 16 + n3) ∷ (n3 * 16 + n4) ∷ (n4 * 16 + n5) ∷ (n5 * 16 + n6) ∷ (n6 * 16 + n7) ∷ (n7 * 16) ∷ []) (255 ∷ 0 ∷ 255 ∷ 0 ∷ 255 ∷ 0 ∷ 255 ∷ 0 ∷ [])
-    (omega arith, (omega arith, (omega arith, (omega arith, (omega arith, (omega arith, (omega arith, (omega arith, tt))))))))
-    (omega arith, (omega arith, (omega arith, (omega arith, (omega arith, (omega arith, (omega arith, (omega arith, tt))))))))
-    ∙ rw (all-255 (n0 * 16 + n1) (omega arith), all-255 (n2 * 16 + n3) (omega arith), all-255 (n4 * 16 + n5) (omega arith), all-255 (n6 * 16 + n7) (omega arith), and-zero-r (n1 * 16 + n2), and-zero-r (n3 * 16 + n4), and-zero-r (n5 * 16 + n6), and-zero-r (n7 * 16)))
-
-module _ (p q s t two : ℕ) (e : Each 256 (p ∷ q ∷ s ∷ t ∷ [])) (is : two ≡ apart (p ∷ q ∷ s ∷ t ∷ [])) where
-  -- of six bytes the first two and the two in the middle
-  picks : (u v w x : ℕ) → Each 256 (u ∷ v ∷ w ∷ x ∷ []) → (a b c d : ℕ) → Each 256 (a ∷ b ∷ c ∷ d ∷ [])
-      → bitAnd (packed (a ∷ b ∷ u ∷ v ∷ c ∷ d ∷ w ∷ x ∷ [])) 0x0000_FFFF_0000_FFFF ≡ packed (a ∷ b ∷ 0 ∷ 0 ∷ c ∷ d ∷ 0 ∷ 0 ∷ [])
-  picks u v w x f a b c d g =
-      and-lists (a ∷ b ∷ u ∷ v ∷ c ∷ d ∷ w ∷ x ∷ []) (255 ∷ 255 ∷ 0 ∷ 0 ∷ 255 ∷ 255 ∷ 0 ∷ 0 ∷ [])
-      (g .0, (g .1 .0, (f .0, (f .1 .0, (g .1 .1 .0, (g .1 .1 .1 .0, (f .1 .1 .0, (f .1 .1 .1 .0, tt))))))))
+module _ (n0 n1 n2 n3 n4 n5 n6 n7 d : ℕ) (e : Each 16 (n0 ∷ n1 ∷ n2 ∷ n3 ∷ n4 ∷ n5 ∷ n6 ∷ n7 ∷ [])) (q : d ≡ packed (n0 ∷ n1 ∷ n2 ∷ n3 ∷ n4 ∷ n5 ∷ n6 ∷ n7 ∷ [])) where
+  pub two-joined : bitAnd (d * 0x10 + d / 0x100) 0x00FF_00FF_00FF_00FF
+      ≡ packed ((n0 * 16 + n1) ∷ 0 ∷ (n2 * 16 + n3) ∷ 0 ∷ (n4 * 16 + n5) ∷ 0 ∷ (n6 * 16 + n7) ∷ 0 ∷ [])
+  two-joined =
+      let sum : d * 0x10 + d / 0x100 ≡ packed ((n0 * 16 + n1) ∷ (n1 * 16 + n2) ∷ (n2 * 16 + n3) ∷ (n3 * 16 + n4) ∷ (n4 * 16 + n5) ∷ (n5 * 16 + n6) ∷ (n6 * 16 + n7) ∷ (n7 * 16) ∷ []) = omega arith in
+      rw sum
+      (and-lists ((n0 * 16 + n1) ∷ (n1 * 16 + n2) ∷ (n2 * 16 + n3) ∷ (n3 * 16 + n4) ∷ (n4 * 16 + n5) ∷ (n5 * 16 + n6) ∷ (n6 * 16 + n7) ∷ (n7 * 16) ∷ []) (255 ∷ 0 ∷ 255 ∷ 0 ∷ 255 ∷ 0 ∷ 255 ∷ 0 ∷ [])
       (omega arith, (omega arith, (omega arith, (omega arith, (omega arith, (omega arith, (omega arith, (omega arith, tt))))))))
-      ∙ rw (all-255 a (g .0), all-255 b (g .1 .0), all-255 c (g .1 .1 .0), all-255 d (g .1 .1 .1 .0), and-zero-r u, and-zero-r v, and-zero-r w, and-zero-r x)
+      (omega arith, (omega arith, (omega arith, (omega arith, (omega arith, (omega arith, (omega arith, (omega arith, tt))))))))
+      ∙ rw (all-255 (n0 * 16 + n1) (omega arith), all-255 (n2 * 16 + n3) (omega arith), all-255 (n4 * 16 + n5) (omega arith), all-255 (n6 * 16 + n7) (omega arith), and-zero-r (n1 * 16 + n2), and-zero-r (n3 * 16 + n4), and-zero-r (n5 * 16 + n6), and-zero-r (n7 * 16)))
 
-  pub four-joined : bitAnd (two * 0x100 + two / 0x1_0000) 0x0000_FFFF_0000_FFFF ≡ packed (q ∷ p ∷ 0 ∷ 0 ∷ t ∷ s ∷ 0 ∷ 0 ∷ [])
+  pub four-joined : bitAnd (bitAnd (d * 0x10 + d / 0x100) 0x00FF_00FF_00FF_00FF * 0x100 + bitAnd (d * 0x10 + d / 0x100) 0x00FF_00FF_00FF_00FF / 0x1_0000) 0x0000_FFFF_0000_FFFF
+      ≡ packed ((n2 * 16 + n3) ∷ (n0 * 16 + n1) ∷ 0 ∷ 0 ∷ (n6 * 16 + n7) ∷ (n4 * 16 + n5) ∷ 0 ∷ 0 ∷ [])
   four-joined =
-      let sum : two * 0x100 + two / 0x1_0000 ≡ packed (q ∷ p ∷ s ∷ q ∷ t ∷ s ∷ 0 ∷ t ∷ []) = rw is (omega arith) in
-      rw sum (picks s q 0 t (e .1 .1 .0, (e .1 .0, (omega arith, (e .1 .1 .1 .0, tt)))) q p t s (e .1 .0, (e .0, (e .1 .1 .1 .0, (e .1 .1 .0, tt)))))
-
-  pub four-lowest-first : bitAnd (two + two / 0x100) 0x0000_FFFF_0000_FFFF ≡ packed (p ∷ q ∷ 0 ∷ 0 ∷ s ∷ t ∷ 0 ∷ 0 ∷ [])
-  four-lowest-first =
-      let sum : two + two / 0x100 ≡ packed (p ∷ q ∷ q ∷ s ∷ s ∷ t ∷ t ∷ 0 ∷ []) = rw is (omega arith) in
-      rw sum (picks q s t 0 (e .1 .0, (e .1 .1 .0, (e .1 .1 .1 .0, (omega arith, tt)))) p q s t e)
+      let two = two-joined in
+      let sum : bitAnd (d * 0x10 + d / 0x100) 0x00FF_00FF_00FF_00FF * 0x100 + bitAnd (d * 0x10 + d / 0x100) 0x00FF_00FF_00FF_00FF / 0x1_0000
+      ≡ packed ((n2 * 16 + n3) ∷ (n0 * 16 + n1) ∷ (n4 * 16 + n5) ∷ (n2 * 16 + n3) ∷ (n6 * 16 + n7) ∷ (n4 * 16 + n5) ∷ 0 ∷ (n6 * 16 + n7) ∷ []) = rw two (omega arith) in
+      rw sum
+      (and-lists ((n2 * 16 + n3) ∷ (n0 * 16 + n1) ∷ (n4 * 16 + n5) ∷ (n2 * 16 + n3) ∷ (n6 * 16 + n7) ∷ (n4 * 16 + n5) ∷ 0 ∷ (n6 * 16 + n7) ∷ []) (255 ∷ 255 ∷ 0 ∷ 0 ∷ 255 ∷ 255 ∷ 0 ∷ 0 ∷ [])
+      (omega arith, (omega arith, (omega arith, (omega arith, (omega arith, (omega arith, (omega arith, (omega arith, tt))))))))
+      (omega arith, (omega arith, (omega arith, (omega arith, (omega arith, (omega arith, (omega arith, (omega arith, tt))))))))
+      ∙ rw (all-255 (n2 * 16 + n3) (omega arith), all-255 (n0 * 16 + n1) (omega arith), all-255 (n6 * 16 + n7) (omega arith), all-255 (n4 * 16 + n5) (omega arith), and-zero-r (n4 * 16 + n5), and-zero-r (n2 * 16 + n3), and-zero-r (n6 * 16 + n7)))
 
 halves : (hi lo : ℕ) → lo < 0x1_0000 → (hi * 0x1_0000_0000 + lo) % 0x1_0000_0000 * 0x1_0000 + (hi * 0x1_0000_0000 + lo) / 0x1_0000_0000 ≡ lo * 0x1_0000 + hi
 halves hi lo h =
@@ -275,25 +259,15 @@ halves hi lo h =
     let r : (hi * 0x1_0000_0000 + lo) % 0x1_0000_0000 ≡ lo = omega arith in
     rw (q, r)
 
-whole : (p q s t : ℕ) → packed (q ∷ p ∷ 0 ∷ 0 ∷ t ∷ s ∷ 0 ∷ 0 ∷ []) ≡ (s * 256 + t) * 0x1_0000_0000 + (p * 256 + q)
-whole p q s t = omega arith
+whole : (p0 p2 p4 p6 : ℕ) → packed (p2 ∷ p0 ∷ 0 ∷ 0 ∷ p6 ∷ p4 ∷ 0 ∷ 0 ∷ []) ≡ (p4 * 256 + p6) * 0x1_0000_0000 + (p0 * 256 + p2)
+whole p0 p2 p4 p6 = omega arith
 
-pub last-joined : (p q s t : ℕ) → p < 256 → q < 256
-    → packed (q ∷ p ∷ 0 ∷ 0 ∷ t ∷ s ∷ 0 ∷ 0 ∷ []) % 0x1_0000_0000 * 0x1_0000 + packed (q ∷ p ∷ 0 ∷ 0 ∷ t ∷ s ∷ 0 ∷ 0 ∷ []) / 0x1_0000_0000 ≡ packed (t ∷ s ∷ q ∷ p ∷ [])
-last-joined p q s t h k = rw (whole p q s t) (halves (s * 256 + t) (p * 256 + q) (omega arith) ∙ omega arith)
-
--- the halves of a number that stand in 32 bits each
-lower-half : (hi lo : ℕ) → hi < 0x1_0000 → lo < 0x1_0000 → (hi * 0x1_0000_0000 + lo + (hi * 0x1_0000_0000 + lo) / 0x1_0000) % 0x1_0000_0000 ≡ hi * 0x1_0000 + lo
-lower-half hi lo h k =
-    let q : (hi * 0x1_0000_0000 + lo) / 0x1_0000 ≡ hi * 0x1_0000 = omega arith in
-    rw q (omega arith)
-
-pub last-lowest-first : (p q s t : ℕ) → Each 256 (p ∷ q ∷ s ∷ t ∷ [])
-    → (packed (p ∷ q ∷ 0 ∷ 0 ∷ s ∷ t ∷ 0 ∷ 0 ∷ []) + packed (p ∷ q ∷ 0 ∷ 0 ∷ s ∷ t ∷ 0 ∷ 0 ∷ []) / 0x1_0000) % 0x1_0000_0000 ≡ packed (p ∷ q ∷ s ∷ t ∷ [])
-last-lowest-first p q s t e = rw (whole q p t s) (lower-half (t * 256 + s) (q * 256 + p) (omega (arith, e .1 .1 .0, e .1 .1 .1 .0)) (omega (arith, e .0, e .1 .0)) ∙ omega arith)
+pub last-joined : (p0 p2 p4 p6 : ℕ) → p0 < 256 → p2 < 256
+    → packed (p2 ∷ p0 ∷ 0 ∷ 0 ∷ p6 ∷ p4 ∷ 0 ∷ 0 ∷ []) % 0x1_0000_0000 * 0x1_0000 + packed (p2 ∷ p0 ∷ 0 ∷ 0 ∷ p6 ∷ p4 ∷ 0 ∷ 0 ∷ []) / 0x1_0000_0000 ≡ (p0 * 256 + p2) * 0x1_0000 + (p4 * 256 + p6)
+last-joined p0 p2 p4 p6 h k = rw (whole p0 p2 p4 p6) (halves (p4 * 256 + p6) (p0 * 256 + p2) (omega arith))
 
 pub in-order : (n0 n1 n2 n3 n4 n5 n6 n7 : ℕ)
-    → packed ((n6 * 16 + n7) ∷ (n4 * 16 + n5) ∷ (n2 * 16 + n3) ∷ (n0 * 16 + n1) ∷ []) ≡ joinedFrom 0 (n0 ∷ n1 ∷ n2 ∷ n3 ∷ n4 ∷ n5 ∷ n6 ∷ n7 ∷ [])
+    → ((n0 * 16 + n1) * 256 + (n2 * 16 + n3)) * 0x1_0000 + ((n4 * 16 + n5) * 256 + (n6 * 16 + n7)) ≡ joinedFrom 0 (n0 ∷ n1 ∷ n2 ∷ n3 ∷ n4 ∷ n5 ∷ n6 ∷ n7 ∷ [])
 in-order n0 n1 n2 n3 n4 n5 n6 n7 = omega arith
 
 pub small : (a b : ℕ) → a < 16 → b < 16 → a * 16 + b < 256
@@ -302,69 +276,3 @@ small a b h k = omega arith
 -- eight numbers below 16
 pub packed-le : (n0 n1 n2 n3 n4 n5 n6 n7 : ℕ) → Each 16 (n0 ∷ n1 ∷ n2 ∷ n3 ∷ n4 ∷ n5 ∷ n6 ∷ n7 ∷ []) → packed (n0 ∷ n1 ∷ n2 ∷ n3 ∷ n4 ∷ n5 ∷ n6 ∷ n7 ∷ []) ≤ 0x0F0F_0F0F_0F0F_0F0F
 packed-le n0 n1 n2 n3 n4 n5 n6 n7 e = omega arith
-
--- ---- what is said of eight bytes
-
--- the low four bits of what each byte says: of digits, all of it
-abbrev pub lowsIn : List ℕ → List ℕ
-lowsIn [] = []
-lowsIn (b ∷ bs) = numberIn b % 16 ∷ lowsIn bs
-
-pub lows-are : (bs : List ℕ) → Each 256 bs → allDigits bs ≡ true → lowsIn bs ≡ numbersIn bs
-unfolding allDigits
-lows-are [] e d = refl
-lows-are (b ∷ bs) e d =
-    let parts = both (ltb (digitNumber b) 16) (allDigits bs) d in
-    let low : numberIn b < 16 = omega (arith, lane-number b (e .0) (parts .0), ltb-true (digitNumber b) 16 (parts .0)) in
-    let same : numberIn b % 16 ≡ numberIn b = omega (arith, low) in
-    λ i. same i ∷ lows-are bs (e .1) (parts .1) i
-
-packed-lows : (bs : List ℕ) → packed (map (λ b. numberIn b % 16) bs) ≡ packed (lowsIn bs)
-packed-lows [] = refl
-packed-lows (b ∷ bs) = rw (packed-lows bs)
-
-pub lows-packed : (bs : List ℕ) (d : ℕ) → length bs ≡ 8 → Each 256 bs → d ≡ packed (numbersIn bs) → bitAnd d 0x0F0F_0F0F_0F0F_0F0F ≡ packed (lowsIn bs)
-lows-packed bs d n e q =
-    let says : d ≡ packed (map numberIn bs) = q ∙ sym (packed-numbers bs) in
-    let long : length (map numberIn bs) ≡ 8 = length-map bs numberIn ∙ n in
-    rw says (rw (long, map-map (λ b. b % 16) numberIn bs) at (low-four (map numberIn bs) (each-map numberIn (λ b h. omega arith) bs e))) ∙ packed-lows bs
-
-pub each-low : (bs : List ℕ) → Each 16 (lowsIn bs)
-each-low [] = tt
-each-low (b ∷ bs) = (omega arith, each-low bs)
-
-pub each-said : (a b c d e f g h : ℕ) → Each 256 (saidIn (a ∷ b ∷ c ∷ d ∷ e ∷ f ∷ g ∷ h ∷ []))
-each-said a b c d e f g h = (omega arith, (omega arith, (omega arith, (omega arith, tt))))
-
-pub apart-le : (p q s t : ℕ) → Each 256 (p ∷ q ∷ s ∷ t ∷ []) → apart (p ∷ q ∷ s ∷ t ∷ []) ≤ 0x00FF_00FF_00FF_00FF
-apart-le p q s t e = omega arith
-
-not-most : (x : ℕ) → x ≤ 0x00FF_00FF_00FF_00FF → x ≡ 0xFFFF_FFFF_FFFF_FFFF → ⊥
-not-most x h e = omega arith
-
-module _ (a b c d e f g h two : ℕ) (is : two ≡ bytesOr (a ∷ b ∷ c ∷ d ∷ e ∷ f ∷ g ∷ h ∷ [])) where
-  abbrev eight : List ℕ
-  eight = a ∷ b ∷ c ∷ d ∷ e ∷ f ∷ g ∷ h ∷ []
-
-  pub bytes-some : (two ≡ 0xFFFF_FFFF_FFFF_FFFF → ⊥) → (allDigits eight ≡ true) × (two ≡ apart (saidIn eight))
-  unfolding bytesOr
-  bytes-some n = by (allDigits eight) refl
-    where
-      by : (t : Bool) → allDigits eight ≡ t → (allDigits eight ≡ true) × (two ≡ apart (saidIn eight))
-      by true k = (k, is ∙ rw k)
-      by false k = absurd (n (is ∙ rw k))
-
-  pub bytes-none : two ≡ 0xFFFF_FFFF_FFFF_FFFF → allDigits eight ≡ false
-  unfolding bytesOr
-  bytes-none n = by (allDigits eight) refl
-    where
-      by : (t : Bool) → allDigits eight ≡ t → allDigits eight ≡ false
-      by true k = absurd (not-most (apart (saidIn eight)) (apart-le _ _ _ _ (each-said a b c d e f g h)) (sym (is ∙ rw k) ∙ n))
-      by false k = k
-
-  -- and the number that they make
-  pub said-number : Each 256 eight → allDigits eight ≡ true
-      → packed ((numberIn g % 16 * 16 + numberIn h % 16) ∷ (numberIn e % 16 * 16 + numberIn f % 16) ∷ (numberIn c % 16 * 16 + numberIn d % 16) ∷ (numberIn a % 16 * 16 + numberIn b % 16) ∷ []) ≡ numberFrom 0 eight
-  said-number low k =
-      in-order (numberIn a % 16) (numberIn b % 16) (numberIn c % 16) (numberIn d % 16) (numberIn e % 16) (numberIn f % 16) (numberIn g % 16) (numberIn h % 16)
-      ∙ ap (joinedFrom 0) (lows-are eight low k) ∙ numbers-of-digits eight low k 0 .1

@@ -21,21 +21,11 @@ abbrev pub numbersIn : List ℕ → List ℕ
 numbersIn [] = []
 numbersIn (b ∷ bs) = numberIn b ∷ numbersIn bs
 
+-- the number that the numbers of digits make, the highest first, after those that make n
+abbrev pub joinedFrom : ℕ → List ℕ → ℕ
+joinedFrom n [] = n
+joinedFrom n (d ∷ ds) = joinedFrom (n * 16 + d) ds
+
 -- the number that digits stand for, 2^32 if a byte is none
 unfoldable pub numberOr : List ℕ → ℕ
 numberOr bs = cond (allDigits bs) (number bs) 0x1_0000_0000
-
--- bytes in one number, each in 16 bits, the first lowest
-abbrev pub apart : List ℕ → ℕ
-apart [] = 0
-apart (b ∷ bs) = apart bs * 65536 + b
-
--- what bytes say as digits, two to a byte: of digits, the bytes that they stand for
-abbrev pub saidIn : List ℕ → List ℕ
-saidIn [] = []
-saidIn (a ∷ []) = []
-saidIn (a ∷ b ∷ bs) = (numberIn a % 16 * 16 + numberIn b % 16) ∷ saidIn bs
-
--- the bytes that digits stand for, in 16 bits each; 2^64 - 1 if a byte is no digit
-unfoldable pub bytesOr : List ℕ → ℕ
-bytesOr bs = cond (allDigits bs) (apart (saidIn bs)) 0xFFFF_FFFF_FFFF_FFFF

@@ -1,17 +1,14 @@
 // Eight digits at a time: as bytes of one number, by sums and masks on all of them at once.
 ghost use mathlib.Core.Path.{_≡_};
 ghost use mathlib.Core.List.{List, [], _∷_};
-ghost use Prim.Native.Nat.{ℕ, _+_, _*_, _/_, _%_, _≤_, _<_};
+ghost use Prim.Native.Nat.{ℕ, _/_, _%_, _≤_, _<_};
 ghost use lib.ListN.{length};
 ghost use Rattle.hex.specs.Hex.{allDigits, digitOf, digits};
-ghost use Rattle.eight.specs.Packed.{packed, apart, Each, numbersIn, saidIn, numberOr, bytesOr};
+ghost use Rattle.eight.specs.Packed.{packed, Each, numbersIn, joinedFrom, numberOr};
 ghost use Rattle.eight.specs.Written.{bytesOf, lowestIn, textsAt};
 
 // What is answered for bytes that are not eight digits.
 pub const NONE: u64 = 0x1_0000_0000;
-
-// And where four bytes in 16 bits each are asked for.
-pub const NOT_DIGITS: u64 = 0xFFFF_FFFF_FFFF_FFFF;
 
 // Eight bytes, the first lowest: by halves, each of which the compiler reads at once.
 fn word_of(b0: u8, b1: u8, b2: u8, b3: u8, b4: u8, b5: u8, b6: u8, b7: u8) -> u64
@@ -40,67 +37,26 @@ fn are_digits(v: u64, d: u64) -> bool
     ((text ^ v) | (d & 0xF0F0_F0F0_F0F0_F0F0)) == 0
 }
 
-// Eight numbers below 16 as four bytes, each in 16 bits, the first lowest.
-fn pairs(d: u64) -> u64
+// Eight numbers below 16 as one, the first highest: two are joined in each 16 bits, then four in each 32, then all.
+fn joined(d: u64) -> u64
     requires { ⌜ d ≤ 0x0F0F_0F0F_0F0F_0F0F ⌝ }
-    ensures { λ r. ⌜ (r ≤ 0x00FF_00FF_00FF_00FF) × ((n0 n1 n2 n3 n4 n5 n6 n7 : ℕ) → Each 16 (n0 ∷ n1 ∷ n2 ∷ n3 ∷ n4 ∷ n5 ∷ n6 ∷ n7 ∷ []) → d ≡ packed (n0 ∷ n1 ∷ n2 ∷ n3 ∷ n4 ∷ n5 ∷ n6 ∷ n7 ∷ []) → r ≡ apart ((n0 * 16 + n1) ∷ (n2 * 16 + n3) ∷ (n4 * 16 + n5) ∷ (n6 * 16 + n7) ∷ [])) ⌝ }
+    ensures { λ r. ⌜ ((n0 n1 n2 n3 n4 n5 n6 n7 : ℕ) → Each 16 (n0 ∷ n1 ∷ n2 ∷ n3 ∷ n4 ∷ n5 ∷ n6 ∷ n7 ∷ []) → d ≡ packed (n0 ∷ n1 ∷ n2 ∷ n3 ∷ n4 ∷ n5 ∷ n6 ∷ n7 ∷ []) → r ≡ joinedFrom 0 (n0 ∷ n1 ∷ n2 ∷ n3 ∷ n4 ∷ n5 ∷ n6 ∷ n7 ∷ [])) ⌝ }
 {
-    (d * 0x10 + d / 0x100) & 0x00FF_00FF_00FF_00FF
-}
-
-// Four bytes, each in 16 bits, as one number, the first highest: two are joined in each 32 bits, then all. Below, the first lowest.
-fn joined(two: u64) -> u64
-    requires { ⌜ two ≤ 0x00FF_00FF_00FF_00FF ⌝ }
-    ensures { λ r. ⌜ ((p q s t : ℕ) → Each 256 (p ∷ q ∷ s ∷ t ∷ []) → two ≡ apart (p ∷ q ∷ s ∷ t ∷ []) → r ≡ packed (t ∷ s ∷ q ∷ p ∷ [])) ⌝ }
-{
+    let two = (d * 0x10 + d / 0x100) & 0x00FF_00FF_00FF_00FF;
     let four = (two * 0x100 + two / 0x1_0000) & 0x0000_FFFF_0000_FFFF;
     (four % 0x1_0000_0000) * 0x1_0000 + four / 0x1_0000_0000
-}
-
-fn joined_lowest_first(two: u64) -> u32
-    requires { ⌜ two ≤ 0x00FF_00FF_00FF_00FF ⌝ }
-    ensures { λ r. ⌜ ((p q s t : ℕ) → Each 256 (p ∷ q ∷ s ∷ t ∷ []) → two ≡ apart (p ∷ q ∷ s ∷ t ∷ []) → r ≡ packed (p ∷ q ∷ s ∷ t ∷ [])) ⌝ }
-{
-    let four = (two + two / 0x100) & 0x0000_FFFF_0000_FFFF;
-    ((four + four / 0x1_0000) % 0x1_0000_0000) as u32
-}
-
-// The four bytes that eight digits stand for, each in 16 bits, the first lowest; `NOT_DIGITS` if a byte is none.
-pub fn bytes(b0: u8, b1: u8, b2: u8, b3: u8, b4: u8, b5: u8, b6: u8, b7: u8) -> u64
-    ensures { λ r. ⌜ r ≡ bytesOr (b0 ∷ b1 ∷ b2 ∷ b3 ∷ b4 ∷ b5 ∷ b6 ∷ b7 ∷ []) ⌝ }
-{
-    let v = word_of(b0, b1, b2, b3, b4, b5, b6, b7);
-    let d = numbers_in(v);
-    if are_digits(v, d) {
-        return pairs(d);
-    }
-    NOT_DIGITS
 }
 
 // The number that eight digits stand for, 2^32 if a byte is none.
 pub fn number(b0: u8, b1: u8, b2: u8, b3: u8, b4: u8, b5: u8, b6: u8, b7: u8) -> u64
     ensures { λ r. ⌜ r ≡ numberOr (b0 ∷ b1 ∷ b2 ∷ b3 ∷ b4 ∷ b5 ∷ b6 ∷ b7 ∷ []) ⌝ }
 {
-    let two = bytes(b0, b1, b2, b3, b4, b5, b6, b7);
-    if two == NOT_DIGITS {
-        return NONE;
+    let v = word_of(b0, b1, b2, b3, b4, b5, b6, b7);
+    let d = numbers_in(v);
+    if are_digits(v, d) {
+        return joined(d);
     }
-    joined(two)
-}
-
-// The same of bytes that are not looked at: of each its low bits say what it would as a digit.
-pub fn bytes_said(b0: u8, b1: u8, b2: u8, b3: u8, b4: u8, b5: u8, b6: u8, b7: u8) -> u64
-    ensures { λ r. ⌜ r ≡ apart (saidIn (b0 ∷ b1 ∷ b2 ∷ b3 ∷ b4 ∷ b5 ∷ b6 ∷ b7 ∷ [])) ⌝ }
-{
-    let d = numbers_in(word_of(b0, b1, b2, b3, b4, b5, b6, b7));
-    pairs(d & 0x0F0F_0F0F_0F0F_0F0F)
-}
-
-// And as a word, the first lowest.
-pub fn word_said(b0: u8, b1: u8, b2: u8, b3: u8, b4: u8, b5: u8, b6: u8, b7: u8) -> u32
-    ensures { λ r. ⌜ r ≡ packed (saidIn (b0 ∷ b1 ∷ b2 ∷ b3 ∷ b4 ∷ b5 ∷ b6 ∷ b7 ∷ [])) ⌝ }
-{
-    joined_lowest_first(bytes_said(b0, b1, b2, b3, b4, b5, b6, b7))
+    NONE
 }
 
 // The four bytes of a number, each in 16 bits, the highest lowest: halves change places, then the bytes of each.

@@ -1,6 +1,6 @@
+pub mod Digits
 pub mod Words
-pub mod Sums
-pub mod Texts
-pub mod Stores
 pub mod Records
+pub mod Stores
+pub mod Texts
 pub mod Loads

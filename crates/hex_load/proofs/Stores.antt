@@ -1,83 +1,50 @@
--- The loops that store the bytes of a record, and what they leave.
---     split-bytes                    the bytes of digits in two parts
---     parts-stored, whole-stored     bytes stored part by part
---     words-turn                     a turn of the loop over words
---     digits-among                   digits with eight before them
+-- What is stored: the bytes of a record, part by part and in the window.
+--     split-stored                   bytes stored in two parts
+--     bytes-turn                     a turn of the loop over a record's bytes
 --     inside-window, run-stored      the bytes of a record in the window
---     said-data, said-other, said-empty    what a record says
+--     said-data, said-nothing        what a record says
 use Prim.Native.Nat.{ℕ, _+_, _-_, _*_, _/_, _%_, _^_, _<_, _≤_}
 use mathlib.Core.Path.{_≡_, refl, sym, ap, _∙_}
-use mathlib.Core.Bool.{Bool, true, false, true≢false, cond}
+use mathlib.Core.Bool.{Bool, true, false, true≢false, cond, _&&_}
 use mathlib.Core.List.{List, [], _∷_, _++_}
 use native.Mathlib.Omega.{arith}
-use lib.ListN.{length, take, drop, set}
+use lib.ListN.{length, getD, take, drop, set}
 use lib.Seq.{sets}
 use lib.Dec.{ltb, eqb}
-use borrow.Author.Tests.{ltb-true, ltb-false, ne-eqb}
+use borrow.Author.Tests.{ltb-true, ltb-false}
 use Rattle.laws.proofs.Stores.{sets-append}
 use Rattle.hex.specs.Hex.{allDigits}
+use Rattle.eight.specs.Packed.{numberOr}
 use Rattle.records.specs.Window.{windowBytes, bytePlace}
 use Rattle.records.specs.Load.{bytesIn, bytesAt, kindIn, countIn, addressIn, contentIn, allInside, run, saidBy, stored}
 use Rattle.records.proofs.Promises.{run-same, stored-run}
-use Rattle.hex_load.proofs.Words.{set-quad, place-back, one-outside}
-use Rattle.hex_load.proofs.Sums.{take-split, take-eight, all-part, in-append, there, many-read}
+use Rattle.hex_load.specs.Reads.{lowBytes}
+use Rattle.hex_load.proofs.Digits.{take-split, there, all-part, in-append, many-read, last-read}
+use Rattle.hex_load.proofs.Words.{set-part, place-back, one-outside}
 
--- the bytes of 2 (m + n) digits, from a place on
-module _ (s : List ℕ) (from m n : ℕ) (fits : from + 2 * (m + n) ≤ length s) where
-  abbrev first : List ℕ
-  first = bytesIn (take (2 * m) (drop from s))
+-- the bytes of 2 (m + n) digits, stored one part after the other
+split-stored : (s : List ℕ) (from m n p : ℕ) (b : List ℕ) → from + 2 * (m + n) ≤ length s
+    → sets b p (bytesIn (take (2 * (m + n)) (drop from s))) ≡ sets (sets b p (bytesIn (take (2 * m) (drop from s)))) (p + m) (bytesIn (take (2 * n) (drop (from + 2 * m) s)))
+split-stored s from m n p b fits =
+    let e : 2 * (m + n) ≡ 2 * m + 2 * n = omega arith in
+    let first = take (2 * m) (drop from s) in
+    let second = take (2 * n) (drop (from + 2 * m) s) in
+    rw (e, take-split (2 * m) (2 * n) from s, in-append m first second (there (2 * m) from s (omega arith)))
+    (sym (sets-append b p (bytesIn first) (bytesIn second)) ∙ rw (many-read s from m (omega arith)))
 
-  abbrev second : List ℕ
-  second = bytesIn (take (2 * n) (drop (from + 2 * m) s))
-
-  in-parts : bytesIn (take (2 * (m + n)) (drop from s)) ≡ first ++ second
-  in-parts =
-      let e : 2 * (m + n) ≡ 2 * m + 2 * n = omega arith in
-      rw (e, take-split (2 * m) (2 * n) from s) (in-append m (take (2 * m) (drop from s)) (take (2 * n) (drop (from + 2 * m) s)) (there (2 * m) from s (omega arith)))
-
-  length-first : length first ≡ m
-  length-first = many-read s from m (omega arith)
-
-  -- stored one part after the other
-  pub split-bytes : (w : List ℕ) (p : ℕ) → sets w p (bytesIn (take (2 * (m + n)) (drop from s))) ≡ sets (sets w p first) (p + m) second
-  split-bytes w p = rw in-parts (sym (sets-append w p first second) ∙ rw length-first)
-
--- the bytes of 2 n digits, stored in two parts
-pub parts-stored : (s : List ℕ) (from n k p : ℕ) (w : List ℕ) → k ≤ n → from + 2 * n ≤ length s
-    → sets (sets w p (bytesIn (take (2 * k) (drop from s)))) (p + k) (bytesIn (take (2 * (n - k)) (drop (from + 2 * k) s))) ≡ sets w p (bytesIn (take (2 * n) (drop from s)))
-parts-stored s from n k p w h fits = let e : k + (n - k) ≡ n = omega arith in rw e at (sym (split-bytes s from k (n - k) (omega arith) w p))
-
--- ---- words
-
-module _ (s : List ℕ) (from m k : ℕ) (more : k < m) (w : List ℕ) where
-  pub words-turn : (i r : ℕ) → i + k < length w → from + 8 * m ≤ length s → windowBytes (r ∷ []) ≡ bytesIn (take 8 (drop (from + 8 * k) s))
-      → sets (windowBytes w) (4 * (i + k)) (bytesIn (take (8 * (m - k)) (drop (from + 8 * k) s))) ≡ sets (windowBytes (set w (i + k) r)) (4 * (i + (k + 1))) (bytesIn (take (8 * (m - (k + 1))) (drop (from + 8 * (k + 1)) s)))
-  unfolding bytesIn
-  words-turn i r there fits is =
-      let e : 8 * (m - k) ≡ 2 * (4 + 4 * (m - (k + 1))) = omega arith in
-      let f : 2 * (4 * (m - (k + 1))) ≡ 8 * (m - (k + 1)) = omega arith in
-      let next : from + 8 * k + 2 * 4 ≡ from + 8 * (k + 1) = omega arith in
-      let place : 4 * (i + k) + 4 ≡ 4 * (i + (k + 1)) = omega arith in
-      let here = take-eight s (from + 8 * k) (omega arith) in
-      let word = set-quad w (i + k) r _ _ _ _ there (is ∙ ap bytesIn here) in
-      rw e (split-bytes s (from + 8 * k) 4 (4 * (m - (k + 1))) (omega arith) (windowBytes w) (4 * (i + k)) ∙ rw (f, next, place, here, word))
-
--- the last bytes of a word, and words behind it
-pub whole-stored : (s : List ℕ) (from k m p : ℕ) (w : List ℕ) → (p + k) % 4 ≡ 0 → from + 2 * (k + 4 * m) ≤ length s
-    → sets (sets w p (bytesIn (take (2 * k) (drop from s)))) (4 * ((p + k) / 4)) (bytesIn (take (8 * m) (drop (from + 2 * k) s))) ≡ sets w p (bytesIn (take (2 * (k + 4 * m)) (drop from s)))
-whole-stored s from k m p w h fits =
-    let e : 4 * ((p + k) / 4) ≡ p + k = omega arith in
-    let f : 8 * m ≡ 2 * (4 * m) = omega arith in
-    rw (e, f) (sym (split-bytes s from k (4 * m) fits w p))
-
--- no digits
-pub none-stored : (s : List ℕ) (from n p : ℕ) (w : List ℕ) → n ≡ 0 → sets w p (bytesIn (take n (drop from s))) ≡ w
-unfolding bytesIn
-none-stored s from n p w e = rw e
-
--- digits among 2 n and the eight before them
-pub digits-among : (s : List ℕ) (from n i m at : ℕ) → 8 ≤ from → at ≡ from - 8 + i → i + m ≤ 8 + 2 * n → allDigits (take (8 + 2 * n) (drop (from - 8) s)) ≡ true → allDigits (take m (drop at s)) ≡ true
-digits-among s from n i m at h e fits all = rw e (all-part i m (8 + 2 * n) (from - 8) s fits all)
+-- m bytes of those that are left, put into the word where they stand
+pub bytes-turn : (s : List ℕ) (i n from left m w q r : ℕ) (ws : List ℕ) → i + 8 + 2 * n ≤ length s → allDigits (take (8 + 2 * n) (drop i s)) ≡ true → from + 2 * left ≡ i + 8 + 2 * n → left ≤ n → m ≤ left → q % 4 + m ≤ 4
+    → q / 4 < length ws → w ≡ numberOr (take 8 (drop (from + 2 * m - 8) s)) → windowBytes (r ∷ []) ≡ sets (windowBytes (getD ws (q / 4) 0 ∷ [])) (q % 4) (lowBytes m w)
+    → sets (windowBytes ws) q (bytesIn (take (2 * left) (drop from s))) ≡ sets (windowBytes (set ws (q / 4) r)) (q + m) (bytesIn (take (2 * (left - m)) (drop (from + 2 * m) s)))
+bytes-turn s i n from left m w q r ws fits all ends few h k there is puts =
+    let place : i + (from + 2 * m - 8 - i) ≡ from + 2 * m - 8 = omega arith in
+    let eight = rw place at (all-part (from + 2 * m - 8 - i) 8 (8 + 2 * n) i s (omega arith) all) in
+    let read = last-read s from m w (omega arith) (omega arith) (omega arith) eight is in
+    let long = many-read s from m (omega arith) in
+    let here : 4 * (q / 4) + q % 4 ≡ q = omega arith in
+    let word = set-part ws (q / 4) r (q % 4) (bytesIn (take (2 * m) (drop from s))) there (rw long k) (rw read at puts) in
+    let both : m + (left - m) ≡ left = omega arith in
+    rw both at (split-stored s from m (left - m) q (windowBytes ws) (omega arith)) ∙ rw (word, here)
 
 -- ---- in the window
 
@@ -101,14 +68,11 @@ module _ (upper : ℕ) (t : List ℕ) where
   unfolding saidBy
   said-data e = rw e
 
-  pub said-other : (kindIn t ≡ 0 → ⊥) → saidBy upper t ≡ []
-  unfolding saidBy
-  said-other e = rw (ne-eqb (kindIn t) 0 e)
-
-  pub said-empty : countIn t ≡ 0 → saidBy upper t ≡ []
+  -- one of another type, or of no bytes
+  pub said-nothing : (eqb (kindIn t) 0 && ltb 0 (countIn t)) ≡ false → saidBy upper t ≡ []
   unfolding saidBy contentIn bytesAt run
-  said-empty e = rw e (by (eqb (kindIn t) 0))
+  said-nothing e = by (eqb (kindIn t) 0) refl
     where
-      by : (b : Bool) → cond b (run (addressIn upper t) []) [] ≡ []
-      by true = refl
-      by false = refl
+      by : (b : Bool) → eqb (kindIn t) 0 ≡ b → cond b (run (addressIn upper t) (contentIn t)) [] ≡ []
+      by false f = refl
+      by true f = let none : countIn t ≡ 0 = omega (arith, ltb-false 0 (countIn t) (rw f at e)) in rw none

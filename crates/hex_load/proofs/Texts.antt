@@ -1,26 +1,23 @@
 -- Laws of a text read from a place on.
---     bytes-here, upper-read   bytes of the record at a place, by their digits
+--     bytes-here               bytes of the record at a place, by their digits
 --     code-refused, code-ended, code-more, code-none      the code of a text from a record on
 --     good-here, good-later    of a text to which no code applies, neither to its first record nor to the rest
 --     said-more                what a text says from a record on
---     rest-less                the rest is shorter
-use Prim.Native.Nat.{ℕ, zero, suc, _+_, _*_, _/_, _%_, _<_, _≤_}
-use mathlib.Core.Path.{_≡_, refl, sym, ap, _∙_}
+--     rest-at, rest-less       the rest, by its place; it is shorter
+use Prim.Native.Nat.{ℕ, zero, suc, _+_, _*_, _<_, _≤_}
+use mathlib.Core.Path.{_≡_, refl, sym, _∙_}
 use mathlib.Core.Bool.{true, false, cond}
 use mathlib.Core.List.{List, [], _∷_, _++_}
 use native.Mathlib.Omega.{arith}
 use native.Mathlib.Decide.{ℕ-discrete}
-use lib.ListN.{length, getD, take, drop, length-drop}
+use lib.ListN.{length, take, drop, length-drop}
 use lib.Seq.{drop-drop}
 use lib.Dec.{eqb}
 use borrow.Author.Tests.{ne-eqb}
-use Rattle.hex.specs.Hex.{allDigits}
-use Rattle.eight.specs.Packed.{packed, saidIn}
 use Rattle.records.specs.Load.{bytesIn, byteIn, bytesAt, kindIn, restOf, upperAfter, recordCode, codeFrom, saidBy, saidFrom}
 use Rattle.records.proofs.Read.{bytes-one}
 use Rattle.records.proofs.Exactly.{in-take, in-length}
 use Rattle.records.proofs.Steps.{less}
-use Rattle.hex_load.proofs.Sums.{four-said}
 
 -- ---- bytes
 
@@ -41,21 +38,10 @@ bytes-here text at k n h =
     ∙ rw (e, ← drop-drop (2 * k) (at + 1) text, in-drop k (drop (at + 1) text), ← drop-drop 1 at text)
     (sym (bytes-one (drop at text) (bytesIn (drop 1 (drop at text))) (λ i. refl) n k few))
 
--- upper bits, by the digits of two bytes
-pub upper-read : (text : List ℕ) (at w : ℕ) → at + 13 ≤ length text → allDigits (take 4 (drop (at + 9) text)) ≡ true
-    → w ≡ packed (saidIn (getD text (at + 9) 0 ∷ getD text (at + 10) 0 ∷ getD text (at + 11) 0 ∷ getD text (at + 12) 0 ∷ 48 ∷ 48 ∷ 48 ∷ 48 ∷ []))
-    → w % 256 * 256 + w / 256 % 256 ≡ byteIn (drop at text) 4 * 256 + byteIn (drop at text) 5
-unfolding bytesAt
-upper-read text at w h all is =
-    let one : at + 9 + 1 ≡ at + 10 = omega arith in
-    let two : at + 9 + 2 ≡ at + 11 = omega arith in
-    let three : at + 9 + 3 ≡ at + 12 = omega arith in
-    let e = four-said text (at + 9) w (omega arith) all (rw (one, two, three) is) ∙ bytes-here text at 4 2 (omega arith) in
-    let first : w % 256 ≡ byteIn (drop at text) 4 = ap (λ (l : List ℕ). getD l 0 0) e in
-    let second : w / 256 % 256 ≡ byteIn (drop at text) 5 = ap (λ (l : List ℕ). getD l 1 0) e in
-    rw (first, second)
-
 -- ---- records
+
+pub rest-at : (text : List ℕ) (at n : ℕ) → n ≡ byteIn (drop at text) 0 → restOf (drop at text) ≡ drop (at + (2 * n + 10 + 2)) text
+rest-at text at n e = drop-drop (2 * byteIn (drop at text) 0 + 10 + 2) at text ∙ rw (← e)
 
 pub rest-less : (t : List ℕ) (g : ℕ) → 0 < length t → length t ≤ g → length (restOf t) ≤ less g
 rest-less t zero h k = absurd (omega arith)

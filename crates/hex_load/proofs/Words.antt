@@ -1,143 +1,94 @@
 -- Laws of a window's bytes and words.
---     bytes-packed       the bytes of a word that is made of four
---     mixed-bytes        the first bytes of a word, and the others of another
---     within-bytes, last-bytes    bytes read with a word that ends with them, put into a word
---     below-all          what holds of each element holds of all
---     stored-append      stores after stores
---     place-back, one-outside     addresses in the window
---     set-part, set-quad          a word set, as the bytes that it changes, or as four
+--     Part, whole-set, put-bytes   bytes put into a word
+--     below-all                what holds of each element holds of all
+--     stored-append            stores after stores
+--     place-back, one-outside  addresses in the window
+--     set-part                 a word set, as the bytes that it changes
 use Prim.Native.Nat.{ℕ, zero, suc, _+_, _-_, _*_, _/_, _%_, _^_, _<_, _≤_}
 use mathlib.Core.Path.{_≡_, refl, sym, ap, _∙_}
 use mathlib.Core.Bool.{Bool, true, false, _&&_}
 use mathlib.Core.List.{List, [], _∷_, _++_}
 use borrow.Author.Tests.{ltb-true, ltb-false, le-ltb}
-use native.Mathlib.Nat.{add-zero}
 use native.Mathlib.Omega.{arith}
-use lib.ListN.{length, getD, set, take, drop, replicate, length-set}
+use lib.ListN.{length, getD, set, drop, length-set}
 use lib.Seq.{sets, set-append-left}
 use lib.Dec.{ltb}
 use Rattle.machine.specs.Window.{placeOf, inside}
-use Rattle.eight.specs.Packed.{packed, Each}
+use Rattle.eight.specs.Packed.{Each}
 use Rattle.records.specs.Window.{windowBytes, bytePlace}
 use Rattle.records.specs.Load.{Said, allInside, stored}
-
-low-byte : (a b c d : ℕ) → a < 256 → (a + 256 * b + 65536 * c + 16777216 * d) % 256 ≡ a
-low-byte a b c d h = omega arith
-
-second-byte : (a b c d : ℕ) → a < 256 → b < 256 → (a + 256 * b + 65536 * c + 16777216 * d) / 256 % 256 ≡ b
-second-byte a b c d h k = let e : (a + 256 * b + 65536 * c + 16777216 * d) / 256 ≡ b + 256 * c + 65536 * d = omega arith in rw e (omega arith)
-
-third-byte : (a b c d : ℕ) → a < 256 → b < 256 → c < 256 → (a + 256 * b + 65536 * c + 16777216 * d) / 65536 % 256 ≡ c
-third-byte a b c d h k l = let e : (a + 256 * b + 65536 * c + 16777216 * d) / 65536 ≡ c + 256 * d = omega arith in rw e (omega arith)
-
-high-byte : (a b c d : ℕ) → a < 256 → b < 256 → c < 256 → d < 256 → (a + 256 * b + 65536 * c + 16777216 * d) / 16777216 % 256 ≡ d
-high-byte a b c d h k l m = let e : (a + 256 * b + 65536 * c + 16777216 * d) / 16777216 ≡ d = omega arith in rw e (omega arith)
+use Rattle.hex_load.specs.Reads.{lowBytes}
+use Rattle.hex_load.proofs.Digits.{whole, low-last}
 
 bytes-joined : (a b c d x : ℕ) → Each 256 (a ∷ b ∷ c ∷ d ∷ []) → x ≡ a + 256 * b + 65536 * c + 16777216 * d → windowBytes (x ∷ []) ≡ a ∷ b ∷ c ∷ d ∷ []
 unfolding windowBytes
 bytes-joined a b c d x e is =
-    rw (is, low-byte a b c d (e .0), second-byte a b c d (e .0) (e .1 .0), third-byte a b c d (e .0) (e .1 .0) (e .1 .1 .0), high-byte a b c d (e .0) (e .1 .0) (e .1 .1 .0) (e .1 .1 .1 .0))
+    let second : x / 256 ≡ b + 256 * c + 65536 * d = omega arith in
+    let third : x / 65536 ≡ c + 256 * d = omega arith in
+    let fourth : x / 16777216 ≡ d = omega arith in
+    let p : x % 256 ≡ a = omega arith in
+    let q : (b + 256 * c + 65536 * d) % 256 ≡ b = omega arith in
+    let r : (c + 256 * d) % 256 ≡ c = omega arith in
+    let s : d % 256 ≡ d = omega arith in
+    rw (second, third, fourth, p, q, r, s)
 
-pub bytes-packed : (a b c d : ℕ) → Each 256 (a ∷ b ∷ c ∷ d ∷ []) → windowBytes (packed (a ∷ b ∷ c ∷ d ∷ []) ∷ []) ≡ a ∷ b ∷ c ∷ d ∷ []
-bytes-packed a b c d e = bytes-joined a b c d (packed (a ∷ b ∷ c ∷ d ∷ [])) e (omega arith)
-
--- a word is its four bytes
-word-whole : (w : ℕ) → w < 2 ^ 32 → w ≡ w % 256 + 256 * (w / 256 % 256) + 65536 * (w / 65536 % 256) + 16777216 * (w / 16777216 % 256)
-word-whole w low =
-    let second : w / 65536 ≡ w / 256 / 256 = omega arith in
-    let third : w / 16777216 ≡ w / 256 / 256 / 256 = omega arith in
-    rw (second, third) (by (w / 256) (w / 256 / 256) (w / 256 / 256 / 256) (omega arith) (omega arith) (omega arith) (omega arith))
-  where
-    by : (x y z : ℕ) → w ≡ w % 256 + 256 * x → x ≡ x % 256 + 256 * y → y ≡ y % 256 + 256 * z → z < 256 → w ≡ w % 256 + 256 * (x % 256) + 65536 * (y % 256) + 16777216 * (z % 256)
-    by x y z a b c d = let e : z % 256 ≡ z = omega arith in omega arith
-
--- ---- bytes of two words in one
+-- ---- bytes put into a word
 
 -- the number of byte k's lowest bit
 abbrev pub unit : ℕ → ℕ
 unit k = 1 * 2 ^ (8 * k) % 4294967296
 
-module _ (v w : ℕ) (v-low : v < 2 ^ 32) (w-low : w < 2 ^ 32) where
-  abbrev pub mixed : ℕ → ℕ
-  mixed k = v % unit k + (w - w % unit k)
+-- what stands in m bytes from byte k on, and the last m bytes of another word there
+abbrev pub hole : ℕ → ℕ → ℕ → ℕ
+hole old k m = old / unit k % unit m * unit k
 
-  mixed-one : mixed 1 ≡ v % 256 + 256 * (w / 256 % 256) + 65536 * (w / 65536 % 256) + 16777216 * (w / 16777216 % 256)
-  mixed-one = omega (arith, word-whole w w-low)
+abbrev pub put : ℕ → ℕ → ℕ → ℕ
+put s k m = s / 2 ^ (8 * (4 - m)) * unit k
 
-  mixed-two : mixed 2 ≡ v % 256 + 256 * (v / 256 % 256) + 65536 * (w / 65536 % 256) + 16777216 * (w / 16777216 % 256)
-  mixed-two =
-      let high : w - w % 65536 ≡ 65536 * (w / 65536 % 256) + 16777216 * (w / 16777216 % 256) = omega (arith, word-whole w w-low) in
-      rw high (omega arith)
+pub record Part (old s k m : ℕ) (bytes : List ℕ) : Type 0 where
+  pub some : 0 < unit k
+  pub more : 0 < unit m
+  pub below : hole old k m ≤ old
+  pub fits : put s k m < 4294967296
+  pub sum : old - hole old k m + put s k m < 4294967296
+  pub are : windowBytes ((old - hole old k m + put s k m) ∷ []) ≡ bytes
 
-  mixed-three : mixed 3 ≡ v % 256 + 256 * (v / 256 % 256) + 65536 * (v / 65536 % 256) + 16777216 * (w / 16777216 % 256)
-  mixed-three =
-      let high : w - w % 16777216 ≡ 16777216 * (w / 16777216 % 256) = omega (arith, word-whole w w-low) in
-      let low : v % 16777216 ≡ v % 256 + 256 * (v / 256 % 256) + 65536 * (v / 65536 % 256) = omega (arith, word-whole v v-low) in
-      rw (high, low)
+module _ (a b c d e f g h old s : ℕ) (low : Each 256 (a ∷ b ∷ c ∷ d ∷ e ∷ f ∷ g ∷ h ∷ [])) (is : old ≡ a + 256 * b + 65536 * c + 16777216 * d) (new : s ≡ e + 256 * f + 65536 * g + 16777216 * h) where
+  made : (k m x y z u : ℕ) → 0 < unit k → 0 < unit m → hole old k m ≤ old → put s k m < 4294967296 → old - hole old k m + put s k m ≡ x + 256 * y + 65536 * z + 16777216 * u → Each 256 (x ∷ y ∷ z ∷ u ∷ [])
+      → Part old s k m (x ∷ y ∷ z ∷ u ∷ [])
+  made k m x y z u p q r t v w = record { some = p; more = q; below = r; fits = t; sum = rw v (omega arith); are = bytes-joined x y z u _ w v }
 
-  pub mixed-bytes : (k : ℕ) → k < 4 → windowBytes (mixed k ∷ []) ≡ take k (windowBytes (v ∷ [])) ++ drop k (windowBytes (w ∷ []))
-  unfolding windowBytes
-  mixed-bytes zero h = let e : mixed 0 ≡ w = omega arith in rw e
-  mixed-bytes (suc zero) h = bytes-joined _ _ _ _ (mixed 1) (omega arith, (omega arith, (omega arith, (omega arith, tt)))) mixed-one
-  mixed-bytes (suc (suc zero)) h = bytes-joined _ _ _ _ (mixed 2) (omega arith, (omega arith, (omega arith, (omega arith, tt)))) mixed-two
-  mixed-bytes (suc (suc (suc zero))) h = bytes-joined _ _ _ _ (mixed 3) (omega arith, (omega arith, (omega arith, (omega arith, tt)))) mixed-three
-  mixed-bytes (suc (suc (suc (suc k)))) h = absurd (omega arith)
+  pub part : (k m : ℕ) → k + m ≤ 4 → 0 < m → (m ≡ 4 → ⊥) → Part old s k m (sets (a ∷ b ∷ c ∷ d ∷ []) k (drop (4 - m) (e ∷ f ∷ g ∷ h ∷ [])))
+  part zero (suc zero) i j n = made 0 1 h b c d (omega arith) (omega arith) (omega arith) (omega arith) (omega arith) (omega arith, (omega arith, (omega arith, (omega arith, tt))))
+  part zero (suc (suc zero)) i j n = made 0 2 g h c d (omega arith) (omega arith) (omega arith) (omega arith) (omega arith) (omega arith, (omega arith, (omega arith, (omega arith, tt))))
+  part zero (suc (suc (suc zero))) i j n = made 0 3 f g h d (omega arith) (omega arith) (omega arith) (omega arith) (omega arith) (omega arith, (omega arith, (omega arith, (omega arith, tt))))
+  part (suc zero) (suc zero) i j n = made 1 1 a h c d (omega arith) (omega arith) (omega arith) (omega arith) (omega arith) (omega arith, (omega arith, (omega arith, (omega arith, tt))))
+  part (suc zero) (suc (suc zero)) i j n = made 1 2 a g h d (omega arith) (omega arith) (omega arith) (omega arith) (omega arith) (omega arith, (omega arith, (omega arith, (omega arith, tt))))
+  part (suc zero) (suc (suc (suc zero))) i j n = made 1 3 a f g h (omega arith) (omega arith) (omega arith) (omega arith) (omega arith) (omega arith, (omega arith, (omega arith, (omega arith, tt))))
+  part (suc (suc zero)) (suc zero) i j n = made 2 1 a b h d (omega arith) (omega arith) (omega arith) (omega arith) (omega arith) (omega arith, (omega arith, (omega arith, (omega arith, tt))))
+  part (suc (suc zero)) (suc (suc zero)) i j n = made 2 2 a b g h (omega arith) (omega arith) (omega arith) (omega arith) (omega arith) (omega arith, (omega arith, (omega arith, (omega arith, tt))))
+  part (suc (suc (suc zero))) (suc zero) i j n = made 3 1 a b c h (omega arith) (omega arith) (omega arith) (omega arith) (omega arith) (omega arith, (omega arith, (omega arith, (omega arith, tt))))
+  part k zero i j n = absurd (omega arith)
+  part zero (suc (suc (suc (suc m)))) i j n = absurd (n (omega arith))
+  part (suc zero) (suc (suc (suc (suc m)))) i j n = absurd (omega arith)
+  part (suc (suc zero)) (suc (suc (suc m))) i j n = absurd (omega arith)
+  part (suc (suc (suc zero))) (suc (suc m)) i j n = absurd (omega arith)
+  part (suc (suc (suc (suc k)))) (suc m) i j n = absurd (omega arith)
 
-  pub mixed-fits : (k : ℕ) → k < 4 → mixed k < 4294967296
-  mixed-fits zero h = omega arith
-  mixed-fits (suc zero) h = omega arith
-  mixed-fits (suc (suc zero)) h = omega arith
-  mixed-fits (suc (suc (suc zero))) h = omega arith
-  mixed-fits (suc (suc (suc (suc k)))) h = absurd (omega arith)
+-- a number's lowest four bytes in the other order
+module _ (w s : ℕ) (is : s ≡ w % 256 * 16777216 + w / 256 % 256 * 65536 + w / 65536 % 256 * 256 + w / 16777216 % 256) where
+  swapped-is : s ≡ w / 2 ^ (8 * 3) % 256 + 256 * (w / 2 ^ (8 * 2) % 256) + 65536 * (w / 2 ^ (8 * 1) % 256) + 16777216 * (w / 2 ^ (8 * 0) % 256)
+  swapped-is = omega arith
 
-pub unit-some : (k : ℕ) → k < 4 → 0 < unit k
-unit-some zero h = omega arith
-unit-some (suc zero) h = omega arith
-unit-some (suc (suc zero)) h = omega arith
-unit-some (suc (suc (suc zero))) h = omega arith
-unit-some (suc (suc (suc (suc k)))) h = absurd (omega arith)
+  pub whole-set : (old k m : ℕ) → m ≡ 4 → k ≡ 0 → windowBytes (s ∷ []) ≡ sets (windowBytes (old ∷ [])) k (lowBytes m w)
+  unfolding windowBytes lowBytes
+  whole-set old k m e z = rw (e, z) (bytes-joined _ _ _ _ s (omega arith, (omega arith, (omega arith, (omega arith, tt)))) swapped-is)
 
--- the last bytes of a word as the first of one
-shifted : (x e : ℕ) → x < 2 ^ 32 → 0 < e → e < 4 → windowBytes (x / 2 ^ (8 * (4 - e)) ∷ []) ≡ drop (4 - e) (windowBytes (x ∷ [])) ++ replicate (4 - e) 0
-unfolding windowBytes
-shifted x zero low some h = absurd (omega arith)
-shifted x (suc zero) low some h = bytes-joined (x / 16777216 % 256) 0 0 0 (x / 16777216) (omega arith, (omega arith, (omega arith, (omega arith, tt)))) (omega arith)
-shifted x (suc (suc zero)) low some h = bytes-joined (x / 65536 % 256) (x / 16777216 % 256) 0 0 (x / 65536) (omega arith, (omega arith, (omega arith, (omega arith, tt)))) (omega (arith, word-whole x low))
-shifted x (suc (suc (suc zero))) low some h = bytes-joined (x / 256 % 256) (x / 65536 % 256) (x / 16777216 % 256) 0 (x / 256) (omega arith, (omega arith, (omega arith, (omega arith, tt)))) (omega (arith, word-whole x low))
-shifted x (suc (suc (suc (suc e)))) low some h = absurd (omega arith)
-
--- n bytes of a word, from byte k on, are the last of another
-module _ (w x r : ℕ) (low : x < 2 ^ 32) where
-  pub within-bytes : (s k n : ℕ) → 0 < n → k + n < 4
-      → windowBytes (s ∷ []) ≡ take k (windowBytes (w ∷ [])) ++ drop k (windowBytes (x / 2 ^ (8 * (4 - (k + n))) ∷ []))
-      → windowBytes (r ∷ []) ≡ take (k + n) (windowBytes (s ∷ [])) ++ drop (k + n) (windowBytes (w ∷ []))
-      → windowBytes (r ∷ []) ≡ sets (windowBytes (w ∷ [])) k (drop (4 - n) (windowBytes (x ∷ [])))
-  unfolding windowBytes
-  within-bytes s k n some h a b = b ∙ rw (a, shifted x (k + n) low (omega arith) h) (by k n some h)
-    where
-      by : (k n : ℕ) → 0 < n → k + n < 4
-          → take (k + n) (take k (windowBytes (w ∷ [])) ++ drop k (drop (4 - (k + n)) (windowBytes (x ∷ [])) ++ replicate (4 - (k + n)) 0)) ++ drop (k + n) (windowBytes (w ∷ []))
-          ≡ sets (windowBytes (w ∷ [])) k (drop (4 - n) (windowBytes (x ∷ [])))
-      by zero (suc zero) some h = refl
-      by zero (suc (suc zero)) some h = refl
-      by zero (suc (suc (suc zero))) some h = refl
-      by (suc zero) (suc zero) some h = refl
-      by (suc zero) (suc (suc zero)) some h = refl
-      by (suc (suc zero)) (suc zero) some h = refl
-      by k zero some h = absurd (omega arith)
-      by zero (suc (suc (suc (suc n)))) some h = absurd (omega arith)
-      by (suc zero) (suc (suc (suc n))) some h = absurd (omega arith)
-      by (suc (suc zero)) (suc (suc n)) some h = absurd (omega arith)
-      by (suc (suc (suc k))) (suc n) some h = absurd (omega arith)
-
-  pub last-bytes : (n : ℕ) → 0 < n → n < 4 → windowBytes (r ∷ []) ≡ take (4 - n) (windowBytes (w ∷ [])) ++ drop (4 - n) (windowBytes (x ∷ []))
-      → windowBytes (r ∷ []) ≡ sets (windowBytes (w ∷ [])) (4 - n) (drop (4 - n) (windowBytes (x ∷ [])))
-  unfolding windowBytes
-  last-bytes zero some h e = absurd (omega arith)
-  last-bytes (suc zero) some h e = e
-  last-bytes (suc (suc zero)) some h e = e
-  last-bytes (suc (suc (suc zero))) some h e = e
-  last-bytes (suc (suc (suc (suc n)))) some h e = absurd (omega arith)
+  pub put-bytes : (old k m : ℕ) → old < 4294967296 → k + m ≤ 4 → 0 < m → (m ≡ 4 → ⊥) → Part old s k m (sets (windowBytes (old ∷ [])) k (lowBytes m w))
+  unfolding windowBytes lowBytes
+  put-bytes old k m fits h i n =
+      rw (low-last w m (omega arith))
+      (part _ _ _ _ _ _ _ _ old s (omega arith, (omega arith, (omega arith, (omega arith, (omega arith, (omega arith, (omega arith, (omega arith, tt)))))))) (omega (arith, whole old)) swapped-is k m h i n)
 
 pub below-all : (m : ℕ) (ws : List ℕ) → ((i : ℕ) → i < length ws → getD ws i 0 < m) → Each m ws
 below-all m [] h = tt
@@ -180,7 +131,6 @@ module _ (start words : ℕ) (low : start < 2 ^ 32) (few : words ≤ 16384) wher
   one-outside (suc n) a p k e some h = outside-step n a p k e (λ l. one-outside n (suc a) (suc p) (omega arith) (omega arith) (omega arith) (omega arith)) (ltb p (4 * words)) refl
 
 -- ---- words
-
 -- stores in the first part of a list, and past its first element
 sets-front : (l m : List ℕ) (k : ℕ) (bs : List ℕ) → k + length bs ≤ length l → sets (l ++ m) k bs ≡ sets l k bs ++ m
 sets-front l m k [] h = refl
@@ -199,7 +149,3 @@ set-part (w ∷ ws) (suc i) r k bs h few e =
     let q : 4 * suc i + k ≡ suc (suc (suc (suc (4 * i + k)))) = omega arith in
     rw (q, sets-past (w % 256) (w / 256 % 256 ∷ w / 65536 % 256 ∷ w / 16777216 % 256 ∷ windowBytes ws) (suc (suc (suc (4 * i + k)))) bs, sets-past (w / 256 % 256) (w / 65536 % 256 ∷ w / 16777216 % 256 ∷ windowBytes ws) (suc (suc (4 * i + k))) bs, sets-past (w / 65536 % 256) (w / 16777216 % 256 ∷ windowBytes ws) (suc (4 * i + k)) bs, sets-past (w / 16777216 % 256) (windowBytes ws) (4 * i + k) bs)
     (ap (λ (l : List ℕ). w % 256 ∷ w / 256 % 256 ∷ w / 65536 % 256 ∷ w / 16777216 % 256 ∷ l) (set-part ws i r k bs (omega arith) few e))
-
-pub set-quad : (ws : List ℕ) (i r a b c d : ℕ) → i < length ws → windowBytes (r ∷ []) ≡ a ∷ b ∷ c ∷ d ∷ [] → windowBytes (set ws i r) ≡ sets (windowBytes ws) (4 * i) (a ∷ b ∷ c ∷ d ∷ [])
-unfolding windowBytes
-set-quad ws i r a b c d h e = set-part ws i r 0 (a ∷ b ∷ c ∷ d ∷ []) h (omega arith) e ∙ rw add-zero

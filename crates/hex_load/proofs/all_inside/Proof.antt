@@ -1,5 +1,9 @@
+use mathlib.Core.Path.{_≡_, refl, sym}
+use mathlib.Core.Bool.{Bool, true, false, _||_}
+use Prim.Native.Nat.{ℕ, zero, suc, _+_, _*_, _<_, _≤_, _^_, _%_}
 use native.Mathlib.Omega.{arith}
-use mathlib.Core.Path.{sym}
+use lib.Dec.{eqb, leb}
+use borrow.Author.Tests.{ne-eqb, leb-true, leb-false}
 use Rattle.records.specs.Load.{allInside}
 use Rattle.records.proofs.Promises.{all-inside}
 use Rattle.hex_load.proofs.Words.{place-back, one-outside}
@@ -7,25 +11,22 @@ use borrow.Author.Needs.{needs}
 use Rattle.hex_load.proofs.all_inside.Statement.{statement}
 use Rattle.hex_load.proofs.all_inside.Tie as tie
 
+-- by the place of the first address
+module _ (start words a p : ℕ) (low : start < 2 ^ 32) (few : words ≤ 16384) (fits : p < 2 ^ 32) (is : a % 2 ^ 32 ≡ (start + p) % 2 ^ 32) where
+  by : (n : ℕ) (t : Bool) → leb (p + suc n) (4 * words) ≡ t → t ≡ allInside start words a (suc n)
+  by n true e = sym (all-inside start words low few (suc n) a p is (leb-true (p + suc n) (4 * words) e))
+  by n false e = sym (one-outside start words low few (suc n) a p fits is (omega arith) (leb-false (p + suc n) (4 * words) e))
+
+  inside : (n : ℕ) → (eqb n 0 || leb (p + n) (4 * words)) ≡ allInside start words a n
+  unfolding allInside
+  inside zero = refl
+  inside (suc n) = rw (ne-eqb (suc n) 0 (λ e. omega (arith, e))) (by n (leb (p + suc n) (4 * words)) refl)
+
 returns : tie.Need-returns
-unfolding allInside
-returns c = rw (c .if1 .taken)
-
-returns-2 : tie.Need-returns-2
-returns-2 c =
-    let p = c .before in
-    let s = p .before .before in
-    let a = s .args in
-    let b = place-back (a .start) (a .a) (p .place .result) (omega arith) (p .place .ensures .0) in
-    sym (one-outside (a .start) (a .words) (omega arith) (s .pre .2) (a .n) (a .a) (p .place .result) (b .0) (b .1) (omega (arith, p .before .if1 .left)) (c .if2 .taken))
-
-returns-3 : tie.Need-returns-3
-returns-3 c =
-    let p = c .before in
-    let s = p .before .before in
-    let a = s .args in
-    let b = place-back (a .start) (a .a) (p .place .result) (omega arith) (p .place .ensures .0) in
-    sym (all-inside (a .start) (a .words) (omega arith) (s .pre .2) (a .n) (a .a) (p .place .result) (b .1) (c .if2 .left))
+returns c =
+    let s = c .before in
+    let b = place-back (s .args .start) (s .args .a) (c .place .result) (omega arith) (c .place .ensures .0) in
+    inside (s .args .start) (s .args .words) (s .args .a) (c .place .result) (omega arith) (s .pre .2) (b .0) (b .1) (s .args .n)
 
 pub all-inside-spec : {M : Type 1} → statement M
-all-inside-spec = tie.close (tie.spec returns (λ c κs. search needs) (λ c. search needs) (λ c. search needs) returns-2 returns-3)
+all-inside-spec = tie.close (tie.spec (λ c κs. search needs) (λ c. search needs) (λ c. search needs) returns)

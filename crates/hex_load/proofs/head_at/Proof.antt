@@ -1,13 +1,82 @@
 use denote.Ref.{now}
-use Rattle.hex_load.proofs.Records.{head-read}
+use mathlib.Core.Path.{_≡_, refl, sym, ap, _∙_}
+use mathlib.Core.Bool.{Bool, true, _&&_}
+use Prim.Native.Nat.{_+_, _*_, _/_, _<_}
+use native.Mathlib.Omega.{arith}
+use lib.ListN.{length, getD, take, drop, length-drop}
+use lib.Dec.{eqb}
+use Rattle.hex.specs.Hex.{allDigits}
+use Rattle.records.specs.Load.{isKind, kindIn, offsetIn}
+use Rattle.hex_load.specs.Reads.{Head}
+use Rattle.hex_load.proofs.Digits.{word-none, word-some}
+use Rattle.hex_load.proofs.Records.{head-of, frame-short, head-not, frame-not, some-of, none-of}
 use borrow.Author.Needs.{needs}
 use Rattle.hex_load.proofs.head_at.Statement.{statement}
 use Rattle.hex_load.proofs.head_at.Tie as tie
 
 returns : tie.Need-returns
 returns c =
-    let s = c .before .before .before .before .before .before .before .before .before .before in
-    head-read (now (s .args .text)) (s .args .at) (s .pre .1) (c .bytes-said .result) (c .bytes-said .ensures)
+    let a = c .before .before .args in
+    none-of _ (frame-short (drop (a .at) (now (a .text))) (rw length-drop (omega (arith, c .if1 .taken))))
+
+returns-2 : tie.Need-returns-2
+returns-2 c =
+    let w = c .before in
+    let a = w .before .before .before .args in
+    none-of _ (head-not (now (a .text)) (a .at) _ refl (word-none (now (a .text)) (a .at + 1) (w .word-at .result) (omega (arith, w .before .if1 .left)) (w .word-at .ensures) (c .if2 .taken)))
+
+-- the first eight are digits
+all : (c : tie.Else2) → (let a = c .before .before .before .before .args in allDigits (take 8 (drop (a .at + 1) (now (a .text)))) ≡ true)
+all c =
+    let w = c .before in
+    let a = w .before .before .before .args in
+    word-some (now (a .text)) (a .at + 1) (w .word-at .result) (omega (arith, w .before .if1 .left)) (w .word-at .ensures) (c .if2 .left)
+
+says : (c : tie.Else2) → (let a = c .before .before .before .before .args in Head (drop (a .at) (now (a .text))) (c .before .word-at .result))
+says c =
+    let w = c .before in
+    let a = w .before .before .before .args in
+    head-of (now (a .text)) (a .at) (w .word-at .result) (omega (arith, w .before .if1 .left)) (w .word-at .ensures) (all c)
+
+returns-3 : tie.Need-returns-3
+returns-3 c =
+    let a = c .before .before .before .before .before .args in
+    none-of _ (frame-short (drop (a .at) (now (a .text))) (rw length-drop (omega (arith, says (c .before) .counts, c .if3 .taken))))
+
+-- the tests, by what the record has
+tests : (k : tie.After-is-kind) → (let e = k .before .before .before .before in
+    let a = e .before .before .before .before .args in
+    let n = e .before .word-at .result / 16777216 in
+    ((eqb (getD (now (a .text)) (a .at) 0) 58 && eqb (getD (now (a .text)) (a .at + (2 * n + 10 + 1)) 0) 10) && k .is-kind .result)
+    ≡ ((eqb (getD (now (a .text)) (a .at) 0) 58 && eqb (getD (now (a .text)) (a .at + (2 * n + 10 + 1)) 0) 10) && isKind (kindIn (drop (a .at) (now (a .text)))) n (offsetIn (drop (a .at) (now (a .text))))))
+tests k =
+    let e = k .before .before .before .before in
+    let a = e .before .before .before .before .args in
+    let n = e .before .word-at .result / 16777216 in
+    let kind : k .is-kind .result ≡ isKind (kindIn (drop (a .at) (now (a .text)))) n (offsetIn (drop (a .at) (now (a .text)))) = k .is-kind .ensures ∙ (λ i. isKind (says e .kinds i) n (says e .offsets i)) in
+    ap (λ (b : Bool). (eqb (getD (now (a .text)) (a .at) 0) 58 && eqb (getD (now (a .text)) (a .at + (2 * n + 10 + 1)) 0) 10) && b) kind
+
+long : (c : tie.Else3) → (let e = c .before in
+    let a = e .before .before .before .before .args in
+    2 * (e .before .word-at .result / 16777216) + 10 + 1 < length (drop (a .at) (now (a .text))))
+long c = rw length-drop (omega (arith, c .if3 .left))
+
+returns-4 : tie.Need-returns-4
+returns-4 c =
+    let k = c .before in
+    let f = k .before .before .before in
+    let e = f .before in
+    let w = e .before in
+    let a = w .before .before .before .args in
+    some-of (now (a .text)) (a .at) (w .word-at .result / 16777216) (says e .counts) (long f) _ (tests k) (w .word-at .result) (omega (arith, w .before .if1 .left)) (w .word-at .ensures) (all e) (c .if4 .taken)
+
+returns-5 : tie.Need-returns-5
+returns-5 c =
+    let k = c .before in
+    let f = k .before .before .before in
+    let e = f .before in
+    let a = e .before .before .before .before .args in
+    none-of _ (frame-not (now (a .text)) (a .at) (e .before .word-at .result / 16777216) (says e .counts) (long f) _ (tests k) (c .if4 .left))
 
 pub head-at-spec : {M : Type 1} → statement M
-head-at-spec = tie.close (tie.spec (λ c. search needs) (λ c. search needs) (λ c. search needs) (λ c. search needs) (λ c. search needs) (λ c. search needs) (λ c. search needs) (λ c. search needs) (λ c. search needs) (λ c. search needs) (λ c. search needs) (λ c. search needs) (λ c. search needs) (λ c. search needs) (λ c. search needs) (λ c. search needs) (λ c κs. search needs) returns)
+head-at-spec = tie.close (tie.spec (λ c. search needs) returns (λ c. search needs) (λ c κs. search needs) returns-2 (λ c. search needs) (λ c. search needs) (λ c. search needs) (λ c. search needs) returns-3 (λ c. search needs) (λ c. search needs) (λ c. search needs) (λ c. search needs) (λ c. search needs) (λ c κs. search needs) returns-4 returns-5)

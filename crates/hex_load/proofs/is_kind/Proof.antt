@@ -1,27 +1,24 @@
+use mathlib.Core.Path.{_≡_, refl, ap, _∙_}
+use mathlib.Core.Bool.{Bool, true, false, cond, _&&_, _||_}
+use Prim.Native.Nat.{ℕ}
+use native.Mathlib.Decide.{ℕ-discrete}
+use lib.Dec.{eqb}
 use borrow.Author.Tests.{eq-eqb, ne-eqb}
 use Rattle.records.specs.Load.{isKind}
 use Rattle.hex_load.proofs.is_kind.Statement.{statement}
 use Rattle.hex_load.proofs.is_kind.Tie as tie
 
+one-or-four : (kind count : ℕ) → Dec (kind ≡ 1) → (eqb kind 1 && eqb count 0 || eqb kind 4 && eqb count 2) ≡ cond (eqb kind 1) (eqb count 0) (eqb kind 4 && eqb count 2)
+one-or-four kind count (yes e) = rw e (last (eqb count 0))
+  where
+    last : (b : Bool) → (b || false) ≡ b
+    last true = refl
+    last false = refl
+one-or-four kind count (no e) = rw (ne-eqb kind 1 e)
+
 returns : tie.Need-returns
 unfolding isKind
-returns c = simp (eq-eqb _ _ (c .if1 .taken))
-
-returns-2 : tie.Need-returns-2
-unfolding isKind
-returns-2 c = simp (ne-eqb _ _ (c .before .if1 .left), ne-eqb _ _ (c .if2 .taken))
-
-returns-3 : tie.Need-returns-3
-unfolding isKind
-returns-3 c = simp (ne-eqb _ _ (c .before .before .if1 .left), eq-eqb _ _ (c .before .if2 .left), eq-eqb _ _ (c .if3 .taken))
-
-returns-4 : tie.Need-returns-4
-unfolding isKind
-returns-4 c = simp (ne-eqb _ _ (c .before .before .before .if1 .left), eq-eqb _ _ (c .before .before .if2 .left), ne-eqb _ _ (c .before .if3 .left), eq-eqb _ _ (c .if4 .taken))
-
-returns-5 : tie.Need-returns-5
-unfolding isKind
-returns-5 c = simp (ne-eqb _ _ (c .before .before .before .if1 .left), eq-eqb _ _ (c .before .before .if2 .left), ne-eqb _ _ (c .before .if3 .left), ne-eqb _ _ (c .if4 .left))
+returns c = let a = c .args in rw (one-or-four (a .kind) (a .count) (ℕ-discrete (a .kind) 1))
 
 pub is-kind-spec : {M : Type 1} → statement M
-is-kind-spec = tie.close (tie.spec returns returns-2 returns-3 returns-4 returns-5)
+is-kind-spec = tie.close (tie.spec returns)
