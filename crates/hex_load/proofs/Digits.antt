@@ -1,14 +1,7 @@
 -- Laws of digits at a place of a text.
---     take-split, take-eight, there      the bytes at a place, in parts and one by one
---     all-part, part-not                 digits among digits
---     in-append, many-read               the bytes that digits stand for
---     word-none, word-some, word-low     the number of eight digits
---     last-read                          its lowest bytes are those of the last digits
---     whole, low-last           the bytes of a number
---     sum-some, turn-none, turn-some     sums of bytes
 use Prim.Native.Nat.{ℕ, zero, suc, _+_, _-_, _*_, _/_, _%_, _^_, _<_, _≤_}
 use mathlib.Core.Path.{_≡_, refl, sym, ap, _∙_}
-use mathlib.Core.Bool.{Bool, true, false, true≢false, cond, _&&_}
+use mathlib.Core.Bool.{Bool, true, false, true≢false}
 use mathlib.Core.List.{List, [], _∷_, _++_}
 use native.Mathlib.Nat.{add-zero, div-one}
 use native.Mathlib.Omega.{arith}

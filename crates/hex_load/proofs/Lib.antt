@@ -1,6 +1,3 @@
 pub mod Digits
-pub mod Words
+pub mod Window
 pub mod Records
-pub mod Stores
-pub mod Texts
-pub mod Loads

@@ -1,29 +1,91 @@
--- Laws of the record at a place of a text.
---     head-of                                   its first four bytes
---     none-of, some-of, frame-short, head-not, frame-not     whether it may be a record, by what is read
---     sum-none, sum-says                        the sum of its bytes
---     record-fits, digits-from, content-bytes, upper-count   what one has that is a record
---     not-record, bad-sum, last-code, code-says its code, and what no code tells of it
-use Prim.Native.Nat.{ℕ, zero, suc, _+_, _-_, _*_, _/_, _%_, _^_, _<_, _≤_}
-use mathlib.Core.Path.{_≡_, refl, sym, ap, _∙_}
-use mathlib.Core.Bool.{Bool, true, false, true≢false, not, cond, _&&_}
+-- A text, and the record at a place of it.
+use Prim.Native.Nat.{ℕ, zero, suc, _+_, _*_, _<_, _≤_, _-_, _/_, _%_, _^_}
+use mathlib.Core.Path.{_≡_, refl, sym, _∙_, ap}
+use mathlib.Core.Bool.{false, cond, Bool, true, true≢false, not, _&&_}
 use mathlib.Core.List.{List, [], _∷_, _++_}
-use native.Mathlib.Nat.{add-zero}
 use native.Mathlib.Omega.{arith}
 use native.Mathlib.Decide.{ℕ-discrete}
-use lib.ListN.{length, getD, take, drop, length-drop}
+use lib.ListN.{length, take, drop, length-drop, getD}
 use lib.Seq.{drop-drop, getD-drop}
-use lib.Dec.{ltb, eqb}
-use borrow.Author.Tests.{eqb-true, eq-eqb, ne-eqb, ltb-true, lt-ltb, le-ltb}
+use lib.Dec.{eqb, ltb}
+use borrow.Author.Tests.{ne-eqb, eqb-true, eq-eqb, ltb-true, lt-ltb, le-ltb}
+use Rattle.records.specs.Load.{bytesIn, byteIn, bytesAt, kindIn, restOf, upperAfter, recordCode, codeFrom, saidBy, saidFrom, digitsIn, totalIn, countIn, offsetIn, addressIn, contentIn, isKind, isRecord, allInside}
+use Rattle.records.proofs.Read.{bytes-one}
+use Rattle.records.proofs.Exactly.{in-take, in-length}
+use Rattle.records.proofs.Steps.{less}
+use native.Mathlib.Nat.{add-zero}
 use Rattle.laws.proofs.Below.{both}
 use Rattle.hex.specs.Hex.{allDigits}
 use Rattle.eight.specs.Packed.{numberOr}
 use Rattle.records.specs.Record.{total}
-use Rattle.records.specs.Load.{bytesIn, byteIn, bytesAt, digitsIn, totalIn, kindIn, countIn, offsetIn, addressIn, contentIn, isKind, isRecord, allInside, recordCode}
-use Rattle.records.proofs.Exactly.{byte-low}
 use Rattle.hex_load.specs.Reads.{lowBytes, none, sumOr, Head, Begins, HeadOf}
 use Rattle.hex_load.proofs.Digits.{all-part, part-not, word-low, last-read, low-sum, sum-is, sum-some}
-use Rattle.hex_load.proofs.Texts.{bytes-here}
+
+-- ---- bytes
+
+in-drop : (k : ℕ) (l : List ℕ) → bytesIn (drop (2 * k) l) ≡ drop k (bytesIn l)
+unfolding bytesIn
+in-drop zero l = refl
+in-drop (suc k) [] = let e : 2 * suc k ≡ suc (suc (2 * k)) = omega arith in rw e
+in-drop (suc k) (a ∷ []) = let e : 2 * suc k ≡ suc (suc (2 * k)) = omega arith in rw e
+in-drop (suc k) (a ∷ b ∷ l) = let e : 2 * suc k ≡ suc (suc (2 * k)) = omega arith in rw e (in-drop k l)
+
+-- the bytes that digits of a record stand for
+pub bytes-here : (text : List ℕ) (at k n : ℕ) → at + (2 * (k + n) + 1) ≤ length text → bytesIn (take (2 * n) (drop (at + (2 * k + 1)) text)) ≡ bytesAt (drop at text) k n
+unfolding byteIn
+bytes-here text at k n h =
+    let e : at + (2 * k + 1) ≡ at + 1 + 2 * k = omega arith in
+    let few : k + n ≤ length (bytesIn (drop 1 (drop at text))) = in-length (k + n) (drop 1 (drop at text)) (rw (drop-drop 1 at text, length-drop) (omega arith)) in
+    in-take n (drop (at + (2 * k + 1)) text)
+    ∙ rw (e, ← drop-drop (2 * k) (at + 1) text, in-drop k (drop (at + 1) text), ← drop-drop 1 at text)
+    (sym (bytes-one (drop at text) (bytesIn (drop 1 (drop at text))) (λ i. refl) n k few))
+
+-- ---- records
+
+pub rest-less : (t : List ℕ) (g : ℕ) → 0 < length t → length t ≤ g → length (restOf t) ≤ less g
+rest-less t zero h k = absurd (omega arith)
+rest-less t (suc g) h k = rw length-drop (omega arith)
+
+pub code-none : (g start words upper : ℕ) → codeFrom g start words upper [] ≡ 19
+unfolding codeFrom
+code-none zero start words upper = refl
+code-none (suc g) start words upper = refl
+
+module _ (start words upper : ℕ) (t : List ℕ) (some : 0 < length t) where
+  full : eqb (length t) 0 ≡ false
+  full = ne-eqb (length t) 0 (λ e. omega (arith, e))
+
+  pub code-refused : (g : ℕ) → length t ≤ g → (recordCode start words upper t ≡ 0 → ⊥) → codeFrom g start words upper t ≡ recordCode start words upper t
+  unfolding codeFrom
+  code-refused zero h e = absurd (omega arith)
+  code-refused (suc g) h e = rw (full, ne-eqb (recordCode start words upper t) 0 e)
+
+  pub code-ended : (g : ℕ) → length t ≤ g → recordCode start words upper t ≡ 0 → kindIn t ≡ 1 → codeFrom g start words upper t ≡ cond (eqb (length (restOf t)) 0) 0 19
+  unfolding codeFrom
+  code-ended zero h e k = absurd (omega arith)
+  code-ended (suc g) h e k = rw (full, e, k)
+
+  pub code-more : (g : ℕ) → length t ≤ g → recordCode start words upper t ≡ 0 → (kindIn t ≡ 1 → ⊥) → codeFrom g start words upper t ≡ codeFrom (less g) start words (upperAfter upper t) (restOf t)
+  unfolding codeFrom
+  code-more zero h e k = absurd (omega arith)
+  code-more (suc g) h e k = rw (full, e, ne-eqb (kindIn t) 1 k)
+
+  pub said-more : (g : ℕ) → length t ≤ g → saidFrom g upper t ≡ saidBy upper t ++ saidFrom (less g) (upperAfter upper t) (restOf t)
+  unfolding saidFrom
+  said-more zero h = absurd (omega arith)
+  said-more (suc g) h = rw full
+
+  -- where no code applies, none applies to the first record, nor to the rest
+  pub good-step : (g : ℕ) → length t ≤ g → codeFrom g start words upper t ≡ 0
+      → (recordCode start words upper t ≡ 0) × (0 < length (restOf t) → codeFrom (less g) start words (upperAfter upper t) (restOf t) ≡ 0)
+  unfolding codeFrom
+  good-step zero h e = absurd (omega arith)
+  good-step (suc g) h e = by (ℕ-discrete (recordCode start words upper t) 0) (ℕ-discrete (kindIn t) 1)
+    where
+      by : Dec (recordCode start words upper t ≡ 0) → Dec (kindIn t ≡ 1) → (recordCode start words upper t ≡ 0) × (0 < length (restOf t) → codeFrom g start words (upperAfter upper t) (restOf t) ≡ 0)
+      by (no n) k = absurd (n (sym (code-refused (suc g) h n) ∙ e))
+      by (yes z) (no n) = (z, λ m. sym (code-more (suc g) h z n) ∙ e)
+      by (yes z) (yes k) = (z, λ m. let w : _≡_ {A = ℕ} 19 0 = sym (code-ended (suc g) h z k ∙ rw (ne-eqb (length (restOf t)) 0 (λ q. omega (arith, q)))) ∙ e in absurd (omega (arith, w)))
 
 -- ---- its first four bytes
 
@@ -77,9 +139,12 @@ module _ (text : List ℕ) (at n : ℕ) (count : n ≡ byteIn (drop at text) 0) 
       second true = refl
 
   -- with all of them but the digits
-  module _ (long : 2 * n + 10 + 1 < length (drop at text)) (t : Bool) (tests : t ≡ ((eqb (getD text at 0) 58 && eqb (getD text (at + (2 * n + 10 + 1)) 0) 10) && isKind (kindIn (drop at text)) n (offsetIn (drop at text)))) where
+  module _ (long : 2 * n + 10 + 1 < length (drop at text)) (kind : Bool) (typed : kind ≡ isKind (kindIn (drop at text)) n (offsetIn (drop at text))) where
+    abbrev t : Bool
+    t = (eqb (getD text at 0) 58 && eqb (getD text (at + (2 * n + 10 + 1)) 0) 10) && kind
+
     all-but : isRecord (drop at text) ≡ (t && digits)
-    all-but = by-place ∙ rw (lt-ltb (2 * n + 10 + 1) (length (drop at text)) long, tests) (turn (eqb (getD text at 0) 58) digits (eqb (getD text (at + (2 * n + 10 + 1)) 0) 10) (isKind (kindIn (drop at text)) n (offsetIn (drop at text))))
+    all-but = by-place ∙ rw (lt-ltb (2 * n + 10 + 1) (length (drop at text)) long, typed) (turn (eqb (getD text at 0) 58) digits (eqb (getD text (at + (2 * n + 10 + 1)) 0) 10) (isKind (kindIn (drop at text)) n (offsetIn (drop at text))))
       where
         turn : (a b c d : Bool) → (a && ((b && c) && d)) ≡ (((a && c) && d) && b)
         turn false b c d = refl
@@ -145,6 +210,26 @@ module _ (text : List ℕ) (at : ℕ) (is : isRecord (drop at text) ≡ true) wh
       let first : w / 256 % 256 ≡ byteIn (drop at text) 4 = ap (λ (l : List ℕ). getD l 0 0) read in
       let second : w / 1 % 256 ≡ byteIn (drop at text) 5 = ap (λ (l : List ℕ). getD l 1 0) read in
       omega (arith, two w, first, second)
+
+-- by the number that holds its first four bytes
+pub record Taken (text : List ℕ) (at h : ℕ) : Type 0 where
+  pub is : isRecord (drop at text) ≡ true
+  pub head : Head (drop at text) h
+  pub ends : at + (2 * (h / 16777216) + 12) ≤ length text
+  pub rest : restOf (drop at text) ≡ drop (at + (2 * (h / 16777216) + 10 + 2)) text
+
+pub taken : (text : List ℕ) (at h : ℕ) → isRecord (drop at text) ≡ true → Head (drop at text) h → Taken text at h
+taken text at h e s = record {
+  is = e;
+  head = s;
+  ends = omega (arith, s .counts, record-fits text at e);
+  rest = drop-drop (2 * byteIn (drop at text) 0 + 10 + 2) at text ∙ rw (← s .counts);
+}
+
+pub taken-read : (text : List ℕ) (at h : ℕ) → isRecord (drop at text) ≡ true → h ≡ numberOr (take 8 (drop (at + 1) text)) → Taken text at h
+taken-read text at h e is =
+    let here : at + 1 + 0 ≡ at + 1 = omega arith in
+    taken text at h e (head-of text at h (omega (arith, record-fits text at e)) is (rw here at (digits-from text at e 0 8 (omega arith))))
 
 -- ---- the sum of its bytes, and its code
 

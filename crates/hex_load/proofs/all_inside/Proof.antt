@@ -6,7 +6,7 @@ use lib.Dec.{eqb, leb}
 use borrow.Author.Tests.{ne-eqb, leb-true, leb-false}
 use Rattle.records.specs.Load.{allInside}
 use Rattle.records.proofs.Promises.{all-inside}
-use Rattle.hex_load.proofs.Words.{place-back, one-outside}
+use Rattle.hex_load.proofs.Window.{place-back, one-outside}
 use borrow.Author.Needs.{needs}
 use Rattle.hex_load.proofs.all_inside.Statement.{statement}
 use Rattle.hex_load.proofs.all_inside.Tie as tie

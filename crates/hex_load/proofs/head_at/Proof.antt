@@ -1,10 +1,9 @@
 use denote.Ref.{now}
-use mathlib.Core.Path.{_≡_, refl, sym, ap, _∙_}
-use mathlib.Core.Bool.{Bool, true, _&&_}
+use mathlib.Core.Path.{_≡_, refl, _∙_}
+use mathlib.Core.Bool.{true}
 use Prim.Native.Nat.{_+_, _*_, _/_, _<_}
 use native.Mathlib.Omega.{arith}
-use lib.ListN.{length, getD, take, drop, length-drop}
-use lib.Dec.{eqb}
+use lib.ListN.{length, take, drop, length-drop}
 use Rattle.hex.specs.Hex.{allDigits}
 use Rattle.records.specs.Load.{isKind, kindIn, offsetIn}
 use Rattle.hex_load.specs.Reads.{Head}
@@ -43,18 +42,13 @@ returns-3 c =
     let a = c .before .before .before .before .before .args in
     none-of _ (frame-short (drop (a .at) (now (a .text))) (rw length-drop (omega (arith, says (c .before) .counts, c .if3 .taken))))
 
--- the tests, by what the record has
-tests : (k : tie.After-is-kind) → (let e = k .before .before .before .before in
+typed : (k : tie.After-is-kind) → (let e = k .before .before .before .before in
     let a = e .before .before .before .before .args in
-    let n = e .before .word-at .result / 16777216 in
-    ((eqb (getD (now (a .text)) (a .at) 0) 58 && eqb (getD (now (a .text)) (a .at + (2 * n + 10 + 1)) 0) 10) && k .is-kind .result)
-    ≡ ((eqb (getD (now (a .text)) (a .at) 0) 58 && eqb (getD (now (a .text)) (a .at + (2 * n + 10 + 1)) 0) 10) && isKind (kindIn (drop (a .at) (now (a .text)))) n (offsetIn (drop (a .at) (now (a .text))))))
-tests k =
+    let t = drop (a .at) (now (a .text)) in
+    k .is-kind .result ≡ isKind (kindIn t) (e .before .word-at .result / 16777216) (offsetIn t))
+typed k =
     let e = k .before .before .before .before in
-    let a = e .before .before .before .before .args in
-    let n = e .before .word-at .result / 16777216 in
-    let kind : k .is-kind .result ≡ isKind (kindIn (drop (a .at) (now (a .text)))) n (offsetIn (drop (a .at) (now (a .text)))) = k .is-kind .ensures ∙ (λ i. isKind (says e .kinds i) n (says e .offsets i)) in
-    ap (λ (b : Bool). (eqb (getD (now (a .text)) (a .at) 0) 58 && eqb (getD (now (a .text)) (a .at + (2 * n + 10 + 1)) 0) 10) && b) kind
+    k .is-kind .ensures ∙ (λ i. isKind (says e .kinds i) (e .before .word-at .result / 16777216) (says e .offsets i))
 
 long : (c : tie.Else3) → (let e = c .before in
     let a = e .before .before .before .before .args in
@@ -68,7 +62,7 @@ returns-4 c =
     let e = f .before in
     let w = e .before in
     let a = w .before .before .before .args in
-    some-of (now (a .text)) (a .at) (w .word-at .result / 16777216) (says e .counts) (long f) _ (tests k) (w .word-at .result) (omega (arith, w .before .if1 .left)) (w .word-at .ensures) (all e) (c .if4 .taken)
+    some-of (now (a .text)) (a .at) (w .word-at .result / 16777216) (says e .counts) (long f) _ (typed k) (w .word-at .result) (omega (arith, w .before .if1 .left)) (w .word-at .ensures) (all e) (c .if4 .taken)
 
 returns-5 : tie.Need-returns-5
 returns-5 c =
@@ -76,7 +70,7 @@ returns-5 c =
     let f = k .before .before .before in
     let e = f .before in
     let a = e .before .before .before .before .args in
-    none-of _ (frame-not (now (a .text)) (a .at) (e .before .word-at .result / 16777216) (says e .counts) (long f) _ (tests k) (c .if4 .left))
+    none-of _ (frame-not (now (a .text)) (a .at) (e .before .word-at .result / 16777216) (says e .counts) (long f) _ (typed k) (c .if4 .left))
 
 pub head-at-spec : {M : Type 1} → statement M
 head-at-spec = tie.close (tie.spec (λ c. search needs) returns (λ c. search needs) (λ c κs. search needs) returns-2 (λ c. search needs) (λ c. search needs) (λ c. search needs) (λ c. search needs) returns-3 (λ c. search needs) (λ c. search needs) (λ c. search needs) (λ c. search needs) (λ c. search needs) (λ c κs. search needs) returns-4 returns-5)

@@ -1,12 +1,12 @@
 use denote.Ref.{now}
-use mathlib.Core.Path.{_≡_, refl, sym, ap, _∙_}
-use Prim.Native.Nat.{ℕ, _+_, _-_, _*_, _/_, _%_, _≤_}
+use mathlib.Core.Path.{_≡_, refl, sym, _∙_}
+use Prim.Native.Nat.{_+_, _*_, _/_, _≤_}
 use native.Mathlib.Omega.{arith}
 use lib.ListN.{length, take, drop, length-set}
 use lib.Seq.{sets}
 use Rattle.records.specs.Window.{windowBytes}
 use Rattle.records.specs.Load.{bytesIn}
-use Rattle.hex_load.proofs.Stores.{bytes-turn}
+use Rattle.hex_load.proofs.Window.{bytes-turn}
 use borrow.Author.Needs.{needs}
 use Rattle.hex_load.proofs.store_digits.Statement.{statement}
 use Rattle.hex_load.proofs.store_digits.Tie as tie

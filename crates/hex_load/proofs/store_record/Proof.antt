@@ -12,7 +12,7 @@ use Rattle.records.specs.Load.{bytesIn, byteIn, kindIn, isRecord, addressIn, st
 use Rattle.records.proofs.Exactly.{byte-low}
 use Rattle.hex_load.proofs.Digits.{many-read}
 use Rattle.hex_load.proofs.Records.{code-says, record-fits, digits-from, content-bytes}
-use Rattle.hex_load.proofs.Stores.{inside-window, run-stored, said-data, said-nothing}
+use Rattle.hex_load.proofs.Window.{inside-window, run-stored, said-data, said-nothing}
 use borrow.Author.Needs.{needs}
 use Rattle.hex_load.proofs.store_record.Statement.{statement}
 use Rattle.hex_load.proofs.store_record.Tie as tie

@@ -1,7 +1,7 @@
 use denote.Ref.{now}
 use mathlib.Core.Path.{_≡_, refl, sym, _∙_}
 use mathlib.Core.Bool.{true}
-use Prim.Native.Nat.{ℕ, _+_, _*_, _/_, _≤_, _<_, _-_}
+use Prim.Native.Nat.{ℕ, _+_, _≤_, _<_, _-_}
 use native.Mathlib.Nat.{le-refl}
 use native.Mathlib.Omega.{arith}
 use lib.ListN.{length, drop, length-drop, drop-of-length-le}
@@ -9,11 +9,8 @@ use Rattle.records.specs.Window.{windowBytes}
 use Rattle.records.specs.Load.{isRecord, recordCode, codeFrom, saidFrom, stored, said}
 use Rattle.records.proofs.Steps.{less}
 use Rattle.records.proofs.Promises.{said-none}
-use Rattle.hex_load.specs.Reads.{Head}
-use Rattle.hex_load.proofs.Records.{head-of, code-says, record-fits, digits-from}
-use Rattle.hex_load.proofs.Words.{stored-append}
-use Rattle.hex_load.proofs.Texts.{rest-at, rest-less, said-more, good-here, good-later}
-use borrow.Author.Needs.{needs}
+use Rattle.hex_load.proofs.Records.{code-says, record-fits, Taken, taken-read, rest-less, said-more, good-step}
+use Rattle.hex_load.proofs.Window.{stored-append}
 use Rattle.hex_load.proofs.store_text.Statement.{statement}
 use Rattle.hex_load.proofs.store_text.Tie as tie
 
@@ -37,7 +34,7 @@ good c =
     let l = c .before in
     let a = l .before .before .before .args in
     let v = l .loop .inv in
-    good-here (a .start) (length (now (a .memory))) (l .loop .upper) (drop (l .loop .at) (now (a .text))) (more c) (v .0) (v .1) (v .5 (more c))
+    good-step (a .start) (length (now (a .memory))) (l .loop .upper) (drop (l .loop .at) (now (a .text))) (more c) (v .0) (v .1) (v .5 (more c)) .0
 
 is-record : (c : tie.In-loop Inv-loop μ-loop) → (let l = c .before in isRecord (drop (l .loop .at) (now (l .before .before .before .args .text))) ≡ true)
 is-record c =
@@ -48,33 +45,20 @@ is-record c =
 fits : (c : tie.In-loop Inv-loop μ-loop) → (let l = c .before in l .loop .at + 12 ≤ length (now (l .before .before .before .args .text)))
 fits c = let l = c .before in omega (arith, record-fits (now (l .before .before .before .args .text)) (l .loop .at) (is-record c))
 
-head : (w : tie.After-word-at Inv-loop μ-loop) → (let l = w .before .before in Head (drop (l .loop .at) (now (l .before .before .before .args .text))) (w .word-at .result))
-head w =
-    let l = w .before .before in
-    let t = now (l .before .before .before .args .text) in
-    let here : l .loop .at + 1 + 0 ≡ l .loop .at + 1 = omega arith in
-    head-of t (l .loop .at) (w .word-at .result) (omega (arith, fits (w .before))) (w .word-at .ensures) (rw here at (digits-from t (l .loop .at) (is-record (w .before)) 0 8 (omega arith)))
+here : (w : tie.After-word-at Inv-loop μ-loop) → (let l = w .before .before in Taken (now (l .before .before .before .args .text)) (l .loop .at) (w .word-at .result))
+here w = let l = w .before .before in taken-read (now (l .before .before .before .args .text)) (l .loop .at) (w .word-at .result) (is-record (w .before)) (w .word-at .ensures)
 
 store-record-requires : tie.Need-store-record-requires Inv-loop μ-loop
 store-record-requires c κs =
     let w = c .before in
     let l = w .before .before in
     let v = l .loop .inv in
-    (rw (v .3) (good (w .before)), head w, v .2, rw (v .3) (l .before .before .before .pre .1))
+    (rw (v .3) (good (w .before)), here w .head, v .2, rw (v .3) (l .before .before .before .pre .1))
 
 upper-after-requires : tie.Need-upper-after-requires Inv-loop μ-loop
 upper-after-requires c κs =
     let w = c .before .before .before .before in
-    (is-record (w .before), head w, w .before .before .loop .inv .2)
-
--- where the next one begins
-ends : (c : tie.After-upper-after Inv-loop μ-loop) → (let w = c .before .before .before .before .before in
-    let l = w .before .before in
-    l .loop .at + (2 * (w .word-at .result / 16777216) + 12) ≤ length (now (l .before .before .before .args .text)))
-ends c =
-    let w = c .before .before .before .before .before in
-    let l = w .before .before in
-    omega (arith, head w .counts, record-fits (now (l .before .before .before .args .text)) (l .loop .at) (is-record (w .before)))
+    (here w .is, here w .head, w .before .before .loop .inv .2)
 
 loop-again : tie.Need-loop-again Inv-loop μ-loop
 loop-again c =
@@ -85,8 +69,8 @@ loop-again c =
     let a = l .before .before .before .args in
     let v = l .loop .inv in
     let t = drop (l .loop .at) (now (a .text)) in
-    let q = rest-at (now (a .text)) (l .loop .at) _ (head w .counts) in
-    let later = good-later (a .start) (length (now (a .memory))) (l .loop .upper) t (more i) (v .0) (v .1) (v .5 (more i)) in (
+    let q = here w .rest in
+    let later = good-step (a .start) (length (now (a .memory))) (l .loop .upper) t (more i) (v .0) (v .1) (v .5 (more i)) .1 in (
       less (v .0),
       rw (← q) (rest-less t (v .0) (more i) (v .1)),
       c .upper-after .ensures .1,
@@ -103,4 +87,4 @@ returns c =
     sym (v .4 ∙ rw (drop-of-length-le (now (l .before .before .before .args .text)) {i = l .loop .at} (c .loop-test .left), said-none (v .0) (l .loop .upper)))
 
 pub store-text-spec : {M : Type 1} → statement M
-store-text-spec = tie.close (tie.spec Inv-loop μ-loop (λ c. (_, le-refl _, omega arith, refl, refl, λ h. c .before .before .pre .0)) (λ c. omega (arith, fits c)) (λ c κs. omega (arith, fits c)) store-record-requires upper-after-requires (λ c. omega (arith, ends c)) (λ c. omega (arith, ends c)) (λ c. omega (arith, ends c)) (λ c. omega (arith, ends c)) (λ c. omega (arith, c .before .before .before .before .before .before .loop-test .taken)) loop-again (λ c. c .before .loop .inv .3) returns)
+store-text-spec = tie.close (tie.spec Inv-loop μ-loop (λ c. (_, le-refl _, omega arith, refl, refl, λ h. c .before .before .pre .0)) (λ c. omega (arith, fits c)) (λ c κs. omega (arith, fits c)) store-record-requires upper-after-requires (λ c. omega (arith, here (c .before .before .before .before .before) .ends)) (λ c. omega (arith, here (c .before .before .before .before .before) .ends)) (λ c. omega (arith, here (c .before .before .before .before .before) .ends)) (λ c. omega (arith, here (c .before .before .before .before .before) .ends)) (λ c. omega (arith, c .before .before .before .before .before .before .loop-test .taken)) loop-again (λ c. c .before .loop .inv .3) returns)

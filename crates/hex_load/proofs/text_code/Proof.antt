@@ -1,17 +1,15 @@
 use denote.Ref.{now}
 use mathlib.Core.Path.{_≡_, refl, sym, _∙_}
-use mathlib.Core.Bool.{true, true≢false, cond}
+use mathlib.Core.Bool.{true≢false, cond}
 use Prim.Native.Nat.{ℕ, _+_, _*_, _/_, _≤_, _<_, _-_}
 use native.Mathlib.Nat.{le-refl}
 use native.Mathlib.Omega.{arith}
 use lib.ListN.{length, drop, length-drop, drop-of-length-le}
 use lib.Dec.{eqb}
 use borrow.Author.Tests.{ne-eqb}
-use Rattle.records.specs.Load.{restOf, isRecord, recordCode, codeFrom}
+use Rattle.records.specs.Load.{recordCode, codeFrom}
 use Rattle.records.proofs.Steps.{less}
-use Rattle.hex_load.specs.Reads.{Head}
-use Rattle.hex_load.proofs.Records.{record-fits, code-says}
-use Rattle.hex_load.proofs.Texts.{rest-at, rest-less, code-none, code-refused, code-ended, code-more}
+use Rattle.hex_load.proofs.Records.{code-says, Taken, taken, rest-less, code-none, code-refused, code-ended, code-more}
 use borrow.Author.Needs.{needs}
 use Rattle.hex_load.proofs.text_code.Statement.{statement}
 use Rattle.hex_load.proofs.text_code.Tie as tie
@@ -44,32 +42,16 @@ good : (i : tie.Else1 Inv-loop μ-loop) → (let l = i .before .before .before .
     recordCode (a .start) (a .words) (l .loop .upper) (drop (l .loop .at) (now (a .text))) ≡ 0)
 good i = sym (i .before .record-code .ensures) ∙ i .if1 .left
 
-is-record : (i : tie.Else1 Inv-loop μ-loop) → (let l = i .before .before .before .before in isRecord (drop (l .loop .at) (now (l .before .before .args .text))) ≡ true)
-is-record i =
-    let l = i .before .before .before .before in
+here : (i : tie.Else1 Inv-loop μ-loop) → (let r = i .before .before in
+    let l = r .before .before in
+    Taken (now (l .before .before .args .text)) (l .loop .at) (r .head-at .result))
+here i =
+    let r = i .before .before in
+    let l = r .before .before in
     let a = l .before .before .args in
-    code-says (a .start) (a .words) (l .loop .upper) (drop (l .loop .at) (now (a .text))) (good i) .0
-
-head : (i : tie.Else1 Inv-loop μ-loop) → (let r = i .before .before in
-    let l = r .before .before in
-    Head (drop (l .loop .at) (now (l .before .before .args .text))) (r .head-at .result))
-head i = let h = i .before .before .head-at .ensures in h .yes (λ z. true≢false (sym (is-record i) ∙ h .no z)) .head
-
--- where the next one begins
-ends : (i : tie.Else1 Inv-loop μ-loop) → (let r = i .before .before in
-    let l = r .before .before in
-    l .loop .at + (2 * (r .head-at .result / 16777216) + 12) ≤ length (now (l .before .before .args .text)))
-ends i =
-    let l = i .before .before .before .before in
-    omega (arith, head i .counts, record-fits (now (l .before .before .args .text)) (l .loop .at) (is-record i))
-
-rest : (i : tie.Else1 Inv-loop μ-loop) → (let r = i .before .before in
-    let l = r .before .before in
-    let t = now (l .before .before .args .text) in
-    restOf (drop (l .loop .at) t) ≡ drop (l .loop .at + (2 * (r .head-at .result / 16777216) + 10 + 2)) t)
-rest i =
-    let l = i .before .before .before .before in
-    rest-at (now (l .before .before .args .text)) (l .loop .at) _ (head i .counts)
+    let is = code-says (a .start) (a .words) (l .loop .upper) (drop (l .loop .at) (now (a .text))) (good i) .0 in
+    let h = r .head-at .ensures in
+    taken (now (a .text)) (l .loop .at) (r .head-at .result) is (h .yes (λ z. true≢false (sym is ∙ h .no z)) .head)
 
 -- past the end record
 ended : (e : tie.Then2 Inv-loop μ-loop) → (let r = e .before .before .before in
@@ -81,7 +63,7 @@ ended e =
     let l = i .before .before .before .before in
     let a = l .before .before .args in
     let v = l .loop .inv in
-    v .3 ∙ code-ended (a .start) (a .words) (l .loop .upper) (drop (l .loop .at) (now (a .text))) (rw length-drop (omega arith)) (v .0) (v .1) (good i) (sym (head i .kinds) ∙ e .if2 .taken) ∙ rw (rest i)
+    v .3 ∙ code-ended (a .start) (a .words) (l .loop .upper) (drop (l .loop .at) (now (a .text))) (rw length-drop (omega arith)) (v .0) (v .1) (good i) (sym (here i .head .kinds) ∙ e .if2 .taken) ∙ rw (here i .rest)
 
 returns-2 : tie.Need-returns-2 Inv-loop μ-loop
 returns-2 c =
@@ -104,9 +86,9 @@ loop-again c =
     let t = drop (l .loop .at) (now (a .text)) in
     let some : 0 < length t = rw length-drop (omega arith) in (
       less (v .0),
-      rw (← rest i) (rest-less t (v .0) some (v .1)),
+      rw (← here i .rest) (rest-less t (v .0) some (v .1)),
       c .upper-after .ensures .1,
-      v .3 ∙ code-more (a .start) (a .words) (l .loop .upper) t some (v .0) (v .1) (good i) (λ z. e .if2 .left (head i .kinds ∙ z)) ∙ rw (rest i, c .upper-after .ensures .0),
+      v .3 ∙ code-more (a .start) (a .words) (l .loop .upper) t some (v .0) (v .1) (good i) (λ z. e .if2 .left (here i .head .kinds ∙ z)) ∙ rw (here i .rest, c .upper-after .ensures .0),
     )
 
 returns-4 : tie.Need-returns-4 Inv-loop μ-loop
@@ -117,4 +99,4 @@ returns-4 c =
     sym (v .3 ∙ rw (drop-of-length-le (now (a .text)) {i = l .loop .at} (c .loop-test .left)) (code-none (v .0) (a .start) (a .words) (l .loop .upper)))
 
 pub text-code-spec : {M : Type 1} → statement M
-text-code-spec = tie.close (tie.spec Inv-loop μ-loop (λ c. (_, le-refl _, omega arith, refl)) (λ c κs. search needs) record-code-requires returns (λ c. omega (arith, ends c)) (λ c. omega (arith, ends c)) (λ c. omega (arith, ends c)) (λ c. omega (arith, ends c)) returns-2 returns-3 (λ c κs. (is-record (c .before), head (c .before), c .before .before .before .before .before .loop .inv .2)) (λ c. omega arith) loop-again returns-4)
+text-code-spec = tie.close (tie.spec Inv-loop μ-loop (λ c. (_, le-refl _, omega arith, refl)) (λ c κs. search needs) record-code-requires returns (λ c. omega (arith, here c .ends)) (λ c. omega (arith, here c .ends)) (λ c. omega (arith, here c .ends)) (λ c. omega (arith, here c .ends)) returns-2 returns-3 (λ c κs. (here (c .before) .is, here (c .before) .head, c .before .before .before .before .before .loop .inv .2)) (λ c. omega arith) loop-again returns-4)

@@ -1,11 +1,11 @@
-use mathlib.Core.Path.{_≡_, refl, ap, _∙_}
-use mathlib.Core.List.{List, [], _∷_}
+use mathlib.Core.Path.{_≡_, refl}
+use mathlib.Core.List.{[], _∷_}
 use Prim.Native.Nat.{ℕ, _+_, _*_, _/_, _%_}
 use native.Mathlib.Omega.{arith}
 use lib.Seq.{sets}
 use Rattle.records.specs.Window.{windowBytes}
 use Rattle.hex_load.specs.Reads.{lowBytes}
-use Rattle.hex_load.proofs.Words.{Part, whole-set, put-bytes}
+use Rattle.hex_load.proofs.Window.{Part, whole-set, put-bytes}
 use borrow.Author.Needs.{needs}
 use Rattle.hex_load.proofs.with_bytes.Statement.{statement}
 use Rattle.hex_load.proofs.with_bytes.Tie as tie
