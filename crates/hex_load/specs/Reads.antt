@@ -27,7 +27,7 @@ pub record Head (text : List ℕ) (h : ℕ) : Type 0 where
   pub offsets : h / 256 % 65536 ≡ offsetIn text
   pub kinds : h % 256 ≡ kindIn text
 
--- it is less than a record by the digits behind them, at most
+-- so does one of a text that begins with a record, or would if the bytes behind the first eight digits were digits too
 pub record Begins (text : List ℕ) (h : ℕ) : Type 0 where
   pub head : Head text h
   pub low : h < 4294967296
@@ -35,7 +35,7 @@ pub record Begins (text : List ℕ) (h : ℕ) : Type 0 where
   pub fits : digitsIn text + 1 < length text
   pub digits : isRecord text ≡ allDigits (take (digitsIn text) (drop 1 text))
 
--- so it is, or the number is 2^32 and it begins with no record
+-- the number is such a one, or 2^32 where a text begins with no record
 pub record HeadOf (text : List ℕ) (h : ℕ) : Type 0 where
   pub no : h ≡ 4294967296 → isRecord text ≡ false
   pub yes : (h ≡ 4294967296 → ⊥) → Begins text h
