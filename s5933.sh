@@ -6,6 +6,7 @@ target=$here/target program=${own:-$here/target/bin}/$crate version=${own:-$here
 
 say() { echo "$tool: $*" >&2; }
 die() { say "${@:2}"; exit "$1"; } # STATUS WORDS...
+alone() { [ $# = 1 ] || die 2 "$1 takes no other word, and has '${*:2}' behind it; $usage"; } # WORDS...
 
 # Process ids of what runs beside the script, that of a group with a minus. A signal that ends the script kills it too; none of
 # it has anything to put in order. (Without an id `wait` would wait for all there is.)
