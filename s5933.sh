@@ -31,17 +31,24 @@ bound=(setpriv --pdeathsig KILL bash -p -c '[ "$PPID" = "$0" ] && exec "$@"' "$$
 declare -A file=([s5933_log]=$target/bin/s5933_log [s5933_hex]=$target/bin/s5933_hex [s5933]=$target/staticlib/libs5933.a)
 declare -A made_of=([s5933_log]=s5933_log [s5933_hex]=s5933_hex [s5933]='station driver')
 
-# One sum over all sources.
-sum_of_sources() {
-    (cd -- "$here" && find crates.txt crates/*/{src,specs,proofs} -type f -print0 | sort -z | xargs -0 sha256sum | sha256sum) 2>/dev/null
-}
+# What all of it is made of: one sum over all sources, and the kit's line.
+origin() {
+    (cd -- "$here" && find crates.txt crates/*/{src,specs,proofs} -type f -print0 | sort -z | xargs -0 sha256sum | sha256sum)
+    cat -- "$(kit_home)/KIT-ID"
+} 2>/dev/null
 
-# unmade NAME...: those whose file is missing, or was made of other sources: its mark, target/NAME.sources, has their sum.
+# mark NAME ORIGIN: its mark, which goes to target/NAME.sources: what it is made of, and the sum of its file as it is.
+mark() {
+    echo "$2"
+    sha256sum <"${file[$1]}"
+} 2>/dev/null
+
+# unmade NAME...: those whose file is missing, was made of other sources or by another kit, or was changed by somebody else.
 unmade() {
-    local name sum
-    sum=$(sum_of_sources)
+    local name origin
+    origin=$(origin)
     for name; do
-        [ -s "${file[$name]}" ] && [ "$(cat "$target/$name.sources" 2>/dev/null)" = "$sum" ] || echo "$name"
+        [ -s "${file[$name]}" ] && [ "$(cat "$target/$name.sources" 2>/dev/null)" = "$(mark "$name" "$origin")" ] || echo "$name"
     done
 }
 
@@ -130,43 +137,43 @@ make_archive() { # NAME
 
 # The mark comes last.
 make_file() { # NAME
-    local sum
-    sum=$(sum_of_sources)
+    local origin
+    origin=$(origin)
     rm -f -- "$target/$1.sources"
     case ${file[$1]} in
         *.a) make_archive "$1" ;;
         *) make_program "$1" ;;
     esac
     [ -s "${file[$1]}" ] || die 2 "rt made no ${file[$1]}"
-    echo "$sum" >"$target/$1.sources"
+    mark "$1" "$origin" >"$target/$1.sources"
 }
 
-# Makes what is unmade. One call at a time; all that a build starts holds its lock.
+# Makes what is unmade, under the lock of target/, which all that a build starts has too.
 build() { # NAME...
     local name todo
     [ -n "$(unmade "$@")" ] || return 0
-    command -v rt >/dev/null || die 2 "not built yet, and rt, of the Rattle kit, is not on the PATH"
-    { mkdir -p -- "$target" && exec 4>>"$target/s5933-log.lock"; } 2>/dev/null || die 2 "not built yet, and $target cannot be written"
-    if ! flock -n 4; then
-        say "another call is building; waiting for it"
-        "${bound[@]}" flock 4 &
-        started=($!)
-        wait $! || die 2 "no lock on $target/s5933-log.lock"
-    fi
+    command -v rt >/dev/null || die 2 "nothing can be built: rt, of the Rattle kit, is not on the PATH"
+    # shellcheck source=lock.sh
+    . "$here/lock.sh" && take_lock "$here" "$tool" || exit 2
+    mkdir -p -- "$target" 2>/dev/null || die 2 "$target cannot be written"
     SECONDS=0
     mapfile -t todo < <(unmade "$@")
     crates=$(count_crates "${todo[@]}")
     for name in "${todo[@]}"; do make_file "$name"; done
-    exec 4>&-
+    exec 9>&-
 }
 
 # ---- running
 
-# The kit's programs and libraries for this machine; none without the kit.
-kit_tools() {
+# The kit's folder, and in it the programs and libraries for this machine; none without the kit.
+kit_home() {
     local rt
     rt=$(command -v rt) || [ -n "${RATTLE_HOME:-}" ] || return
-    echo "${RATTLE_HOME:-$(dirname "$(dirname "$(readlink -f "$rt")")")}/on/$(uname -m)/toolchain"
+    echo "${RATTLE_HOME:-$(dirname "$(dirname "$(readlink -f "$rt")")")}"
+}
+kit_tools() {
+    local home
+    home=$(kit_home) && echo "$home/on/$(uname -m)/toolchain"
 }
 
 # The program is x86-64 code. Elsewhere an emulator runs it, the kit's or the system's.

@@ -7,6 +7,8 @@ profiles=(registers mailboxes fifos transfers aborts unknown broken resets all p
 warnings=(-Wall -Wextra -Wpedantic -Werror)
 work=$(mktemp -d) || exit 2
 trap 'rm -rf "$work"' EXIT
+# shellcheck source=lock.sh
+. ./lock.sh
 
 # The kit compiles for x86-64. On another processor C programs that link its archive are cross-compiled, and run under the
 # kit's emulator, as the log program is.
@@ -69,7 +71,7 @@ provide() {
     read -ra packages <<<"$1"
     shift
     "$@" && return
-    fetch "${packages[@]}" >"$work/apt" 2>&1
+    fetch "${packages[@]}" >"$work/apt" 2>&1 9>&-
     "$@" && return
     grep -E '^(E:|sudo:)' "$work/apt" | head -n 3
     echo "error: '$*' fails, and apt-get could not mend it. Install by hand: ${packages[*]}"
