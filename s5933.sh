@@ -188,15 +188,16 @@ find_emulator() { # TOOLS
 }
 
 # What the words name, in `files`. A word that begins with - is a file only if the first word is --, which is none; - alone is standard
-# input.
+# input, which is there once.
 files=()
 name_files() { # WORDS...
-    local name
+    local name input=0
     if [ "${1:-}" = -- ]; then shift; else
         for name; do [[ $name != -?* ]] || die 2 "$name is not understood; $usage"; done
     fi
     files=("$@")
     for name; do
+        [ "$name" != - ] || [ $((input += 1)) = 1 ] || die 2 "- stands for standard input, and there is one; $usage"
         [ "$name" != - ] || continue
         [ -e "$name" ] || die 1 "$name: no such file"
         [ ! -d "$name" ] || die 1 "$name: is a directory"
@@ -221,12 +222,27 @@ feed() { # COMMAND...
     feeders+=($!)
 }
 
-# The files, one after the other, as standard input.
+# The files, one after the other, as standard input, which ends where one cannot be read.
 take_files() { # FILE...
     if [ $# -gt 1 ]; then
-        feed cat -- "$@"
+        # shellcheck disable=SC2016
+        feed bash -p -c 'for file; do setpriv --pdeathsig KILL cat -- "$file" || exit; done' cat "$@"
     elif [ "${1:--}" != - ]; then
         exec <"$1" || exit 1
+    fi
+}
+
+# What the feeders give begins here: an input that could not be read is no empty one, which the program would answer. Its first byte is
+# waited for, and fed anew.
+begin() {
+    local LC_ALL=C byte feeder
+    [ "${#feeders[@]}" != 0 ] || return 0
+    if IFS= read -r -d '' -n 1 byte; then
+        printf -v byte '\\%03o' "'$byte"
+        # shellcheck disable=SC2016
+        feed bash -p -c 'printf "$0" && exec cat' "$byte"
+    else
+        for feeder in "${feeders[@]}"; do wait "$feeder" || exit 1; done
     fi
 }
 
