@@ -1,6 +1,6 @@
 # shellcheck shell=bash
 # What the commands s5933-log and s5933-hex share: building a program where that is needed, and running it. A command says its name,
-# its crate, the folder that it stands in, and, as an installed copy, its own folder; README.md says what the exit statuses mean.
+# its crate, the folder that it stands in, and, as an installed copy, its own folder; docs/COMMANDS.md says what the exit statuses mean.
 # shellcheck disable=SC2154,SC2034
 target=$here/target program=${own:-$here/target/bin}/$crate version=${own:-$here}/VERSION
 

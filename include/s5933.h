@@ -27,7 +27,11 @@ extern "C" {
 #define S5933_ENGLISH 0
 #define S5933_GERMAN 1
 
-/* What s5933_log returns where it refuses. */
+/*
+ * What s5933_log returns where it refuses. A number returned means what its own call says: -2 is an input too long here, a window out of
+ * form (-S5933_WINDOW_OUT_OF_FORM) from s5933_hex_length, s5933_hex_export and s5933_hex_load; and s5933_step and s5933_restore have
+ * other meanings for -1, s5933_restore for -2 too.
+ */
 #define S5933_NO_ROOM (-1)
 #define S5933_INPUT_TOO_LONG (-2)
 #define S5933_UNKNOWN_SET (-3)
@@ -36,8 +40,8 @@ extern "C" {
 #define S5933_WINDOW_MOST 16384
 
 /*
- * The codes, by their English labels. README.md says when each is given. 15 is of the programs alone; 16 to 19 and 24 are of windows as
- * Intel HEX, where s5933_hex_length, s5933_hex_export and s5933_hex_load return a code with a minus, as -S5933_WRONG_SUM.
+ * The codes, by their English labels. docs/COMMANDS.md says when each is given. 15 is of the programs alone; 16 to 19 and 24 are of
+ * windows as Intel HEX, where s5933_hex_length, s5933_hex_export and s5933_hex_load return a code with a minus, as -S5933_WRONG_SUM.
  */
 enum {
     S5933_DONE = 0,
@@ -174,7 +178,7 @@ static inline size_t s5933_room(const uint8_t *input, size_t input_length)
 
 /*
  * The number in a field of a log line, such as s5933_number(line, S5933_CODE_AT, S5933_CODE_DIGITS); -1 if one of the digits is
- * none. It reads no byte behind them.
+ * none. It takes at most 15 digits, for the number has to fit into an int64_t; no field has more than 8. It reads no byte behind them.
  */
 static inline int64_t s5933_number(const uint8_t *line, size_t at, size_t digits)
 {
@@ -215,7 +219,7 @@ static inline int64_t s5933_number(const uint8_t *line, size_t at, size_t digits
  *
  * So an input cannot be cut in two calls: the second would begin from reset. A station that goes on past S5933_INPUT_MOST bytes
  * makes its steps on a controller that it keeps (s5933_step, below; examples/driver), or keeps the log program as a child and talks
- * to it over pipes (README.md, "For weeks"; examples/child). Neither has a limit.
+ * to it over pipes (docs/C.md, "For weeks"; examples/child). Neither has a limit.
  *
  * The caller owes what C cannot say: the two pointers are not null, not even for a length of 0, each has as many bytes as its
  * length says, and the output overlaps neither the input nor anything that is in use elsewhere during the call.
