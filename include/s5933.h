@@ -2,7 +2,7 @@
  * The S5933 model as a station's service and a driver call it. Link libs5933.a, an x86-64 archive with all of the calls, which
  * ./s5933-log --build makes; an installed copy has it by its former name, libstation.a, too. It is for user space: its code uses SSE
  * registers and the red zone below the stack pointer, so it is not for a kernel as it is. Header and archive have to be of one version.
- * README.md and docs/REGISTERS.md, which are named below, an installed copy has in share/doc/s5933.
+ * The pages of docs/ that are named below an installed copy has in share/doc/s5933.
  */
 #ifndef S5933_H
 #define S5933_H
