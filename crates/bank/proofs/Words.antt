@@ -72,16 +72,16 @@ module _ {l mail pci addon : List ℕ} {n : ℕ → ℕ} (s : Stand l mail pci a
         intcsr = at 25 refl i;
         mcsr = at 26 refl i;
         aint = at 27 refl i;
-        «read_address» = at 28 refl i;
-        «read_count» = record { 0 = at 29 refl i };
+        «pci_address» = at 28 refl i;
+        «pci_count» = record { 0 = at 29 refl i };
         «pci_head» = at 30 refl i;
         «pci_fill» = record { 0 = at 31 refl i };
-        «write_address» = at 32 refl i;
-        «write_count» = record { 0 = at 33 refl i };
+        «addon_address» = at 32 refl i;
+        «addon_count» = record { 0 = at 33 refl i };
         «addon_head» = at 34 refl i;
         «addon_fill» = record { 0 = at 35 refl i };
-        «read_right» = isRight (at 36 refl i);
-        «write_right» = isRight (at 37 refl i);
+        «pci_right» = isRight (at 36 refl i);
+        «addon_right» = isRight (at 37 refl i);
       }
 
   pub stand-rights : hasRights l ≡ rightsBy n

@@ -10,8 +10,8 @@ stateIn b mail pci addon =
     record {
       mail = mail;
       marks = b .marks;
-      fromPci = record { words = from 8 0 pci (b .«pci_head») (b .«pci_fill» .0); address = b .«read_address»; count = b .«read_count» .0; right = b .«read_right» };
-      fromAddon = record { words = from 8 0 addon (b .«addon_head») (b .«addon_fill» .0); address = b .«write_address»; count = b .«write_count» .0; right = b .«write_right» };
+      fromPci = record { words = from 8 0 pci (b .«pci_head») (b .«pci_fill» .0); address = b .«pci_address»; count = b .«pci_count» .0; right = b .«pci_right» };
+      fromAddon = record { words = from 8 0 addon (b .«addon_head») (b .«addon_fill» .0); address = b .«addon_address»; count = b .«addon_count» .0; right = b .«addon_right» };
       intcsr = b .intcsr;
       mcsr = b .mcsr;
       aint = b .aint;

@@ -46,16 +46,16 @@ bankBy n =
       intcsr = n 25;
       mcsr = n 26;
       aint = n 27;
-      «read_address» = n 28;
-      «read_count» = record { 0 = n 29 };
+      «pci_address» = n 28;
+      «pci_count» = record { 0 = n 29 };
       «pci_head» = n 30;
       «pci_fill» = record { 0 = n 31 };
-      «write_address» = n 32;
-      «write_count» = record { 0 = n 33 };
+      «addon_address» = n 32;
+      «addon_count» = record { 0 = n 33 };
       «addon_head» = n 34;
       «addon_fill» = record { 0 = n 35 };
-      «read_right» = isRight (n 36);
-      «write_right» = isRight (n 37);
+      «pci_right» = isRight (n 36);
+      «addon_right» = isRight (n 37);
     }
 
 abbrev pub bankIn : List ℕ → Bank

@@ -10,22 +10,23 @@ use controller::Lane;
 use fifo::Fifo;
 use fifo::WordFill;
 
-// The numbers of a controller. Read cycles work on the FIFO from PCI, write cycles on the FIFO from the Add-On.
+// The numbers of a controller, those of a lane by the side that feeds it: read cycles work on the lane from PCI, write cycles on the one
+// from the Add-On.
 pub struct Bank {
     pub marks: u32,
     pub intcsr: u32,
     pub mcsr: u32,
     pub aint: u32,
-    pub read_address: u32,
-    pub read_count: ByteCount,
+    pub pci_address: u32,
+    pub pci_count: ByteCount,
     pub pci_head: u32,
     pub pci_fill: WordFill,
-    pub write_address: u32,
-    pub write_count: ByteCount,
+    pub addon_address: u32,
+    pub addon_count: ByteCount,
     pub addon_head: u32,
     pub addon_fill: WordFill,
-    pub read_right: bool,
-    pub write_right: bool,
+    pub pci_right: bool,
+    pub addon_right: bool,
 }
 
 // How many words there are. From 0 on stand the mailbox words, by their offset / 4.
@@ -45,25 +46,25 @@ pub const MCSR: usize = 26;
 
 pub const AINT: usize = 27;
 
-pub const READ_ADDRESS: usize = 28;
+pub const PCI_ADDRESS: usize = 28;
 
-pub const READ_COUNT: usize = 29;
+pub const PCI_COUNT: usize = 29;
 
 pub const PCI_HEAD: usize = 30;
 
 pub const PCI_FILL: usize = 31;
 
-pub const WRITE_ADDRESS: usize = 32;
+pub const ADDON_ADDRESS: usize = 32;
 
-pub const WRITE_COUNT: usize = 33;
+pub const ADDON_COUNT: usize = 33;
 
 pub const ADDON_HEAD: usize = 34;
 
 pub const ADDON_FILL: usize = 35;
 
-pub const READ_RIGHT: usize = 36;
+pub const PCI_RIGHT: usize = 36;
 
-pub const WRITE_RIGHT: usize = 37;
+pub const ADDON_RIGHT: usize = 37;
 
 // A right as a word.
 pub fn one_if(b: bool) -> u32
@@ -88,16 +89,16 @@ pub fn bank_in(words: &[u32]) -> Bank
         intcsr: number(words, INTCSR),
         mcsr: number(words, MCSR),
         aint: number(words, AINT),
-        read_address: number(words, READ_ADDRESS),
-        read_count: ByteCount(number(words, READ_COUNT)),
+        pci_address: number(words, PCI_ADDRESS),
+        pci_count: ByteCount(number(words, PCI_COUNT)),
         pci_head: number(words, PCI_HEAD),
         pci_fill: WordFill(number(words, PCI_FILL)),
-        write_address: number(words, WRITE_ADDRESS),
-        write_count: ByteCount(number(words, WRITE_COUNT)),
+        addon_address: number(words, ADDON_ADDRESS),
+        addon_count: ByteCount(number(words, ADDON_COUNT)),
         addon_head: number(words, ADDON_HEAD),
         addon_fill: WordFill(number(words, ADDON_FILL)),
-        read_right: number(words, READ_RIGHT) != 0,
-        write_right: number(words, WRITE_RIGHT) != 0,
+        pci_right: number(words, PCI_RIGHT) != 0,
+        addon_right: number(words, ADDON_RIGHT) != 0,
     }
 }
 
@@ -119,12 +120,12 @@ pub fn words_of(c: Controller) -> [u32; 38]
     let addon_fifo = from_addon.fifo;
     let pci = places(pci_fifo);
     let addon = places(addon_fifo);
-    let read_count = from_pci.count;
-    let write_count = from_addon.count;
+    let pci_count = from_pci.count;
+    let addon_count = from_addon.count;
     let pci_fill = pci_fifo.fill;
     let addon_fill = addon_fifo.fill;
-    let read_right = one_if(from_pci.right);
-    let write_right = one_if(from_addon.right);
+    let pci_right = one_if(from_pci.right);
+    let addon_right = one_if(from_addon.right);
     [
         mail[0],
         mail[1],
@@ -155,15 +156,15 @@ pub fn words_of(c: Controller) -> [u32; 38]
         c.mcsr,
         c.aint,
         from_pci.address,
-        read_count.0,
+        pci_count.0,
         pci_fifo.head,
         pci_fill.0,
         from_addon.address,
-        write_count.0,
+        addon_count.0,
         addon_fifo.head,
         addon_fill.0,
-        read_right,
-        write_right,
+        pci_right,
+        addon_right,
     ]
 }
 
@@ -204,8 +205,8 @@ pub fn controller_of(words: [u32; 38]) -> Controller
     ];
     let pci_fill = b.pci_fill;
     let addon_fill = b.addon_fill;
-    let read_count = b.read_count;
-    let write_count = b.write_count;
+    let pci_count = b.pci_count;
+    let addon_count = b.addon_count;
     let pci_fifo = Fifo {
         words: pci,
         head: b.pci_head,
@@ -218,15 +219,15 @@ pub fn controller_of(words: [u32; 38]) -> Controller
     };
     let from_pci = Lane {
         fifo: pci_fifo,
-        address: b.read_address,
-        count: read_count,
-        right: b.read_right,
+        address: b.pci_address,
+        count: pci_count,
+        right: b.pci_right,
     };
     let from_addon = Lane {
         fifo: addon_fifo,
-        address: b.write_address,
-        count: write_count,
-        right: b.write_right,
+        address: b.addon_address,
+        count: addon_count,
+        right: b.addon_right,
     };
     Controller {
         mail,

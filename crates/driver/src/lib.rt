@@ -16,7 +16,7 @@ fn form_in(words: &[u32], start: u32, count: usize) -> u32
     if words.len() != bank::WORDS {
         return codes::STATE_OUT_OF_FORM;
     }
-    if !((words[bank::READ_RIGHT] < 2) & (words[bank::WRITE_RIGHT] < 2)) {
+    if !((words[bank::PCI_RIGHT] < 2) & (words[bank::ADDON_RIGHT] < 2)) {
         return codes::STATE_OUT_OF_FORM;
     }
     let b = bank::bank_in(words);

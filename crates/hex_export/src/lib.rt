@@ -116,7 +116,7 @@ struct Put {
 
 // Writes four words of the window, from word i on. Each is read after the one before it is written, lest the compiler makes the
 // digits of two at once, in vectors, which an emulator is slow at.
-fn put_all(out: &mut [u8], at: usize, memory: &[u32], i: usize) -> Put
+fn put_four_words(out: &mut [u8], at: usize, memory: &[u32], i: usize) -> Put
     requires { ⌜ (at + 32 ≤ length (now out)) × (i + 4 ≤ length (now memory)) ⌝ }
     ensures { λ r. ⌜ (r .at ≡ at + 32) × (r .sum ≡ total (windowBytes (take 4 (drop i (now (memory .entry)))))) × (r .sum ≤ 4080) × Wrote (now (out .entry)) at (hexes (windowBytes (take 4 (drop i (now (memory .entry)))))) (r .at) (now (out .exit)) ⌝ }
 {
@@ -140,7 +140,7 @@ fn put_words(out: &mut [u8], at: usize, memory: &[u32], i: usize, n: usize) -> P
     ensures { λ r. ⌜ (r .at ≡ at + 8 * n) × (r .sum ≡ total (windowBytes (take n (drop i (now (memory .entry)))))) × (r .sum ≤ 4080) × Wrote (now (out .entry)) at (hexes (windowBytes (take n (drop i (now (memory .entry)))))) (r .at) (now (out .exit)) ⌝ }
 {
     if n == 4 {
-        return put_all(out, at, memory, i);
+        return put_four_words(out, at, memory, i);
     }
     let mut p = at;
     let mut sum = 0;

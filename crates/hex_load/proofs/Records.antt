@@ -9,7 +9,7 @@ use lib.ListN.{length, take, drop, length-drop, getD}
 use lib.Seq.{drop-drop, getD-drop}
 use lib.Dec.{eqb, ltb}
 use borrow.Author.Tests.{ne-eqb, eqb-true, eq-eqb, ltb-true, lt-ltb, le-ltb}
-use Rattle.records.specs.Load.{bytesIn, byteIn, bytesAt, kindIn, restOf, upperAfter, recordCode, codeFrom, saidBy, saidFrom, digitsIn, totalIn, countIn, offsetIn, addressIn, contentIn, isKind, isRecord, allInside}
+use Rattle.records.specs.Load.{bytesIn, byteIn, bytesAt, kindIn, restOf, upperAfter, recordCode, codeFrom, refusedFrom, saidBy, saidFrom, digitsIn, totalIn, countIn, offsetIn, addressIn, contentIn, isKind, isRecord, allInside}
 use Rattle.records.proofs.Read.{bytes-one}
 use Rattle.records.proofs.Exactly.{in-take, in-length}
 use Rattle.records.proofs.Steps.{less}
@@ -51,6 +51,11 @@ unfolding codeFrom
 code-none zero start words upper = refl
 code-none (suc g) start words upper = refl
 
+pub place-none : (g start words upper : ℕ) → refusedFrom g start words upper [] ≡ 0
+unfolding refusedFrom
+place-none zero start words upper = refl
+place-none (suc g) start words upper = refl
+
 module _ (start words upper : ℕ) (t : List ℕ) (some : 0 < length t) where
   full : eqb (length t) 0 ≡ false
   full = ne-eqb (length t) 0 (λ e. omega (arith, e))
@@ -69,6 +74,23 @@ module _ (start words upper : ℕ) (t : List ℕ) (some : 0 < length t) where
   unfolding codeFrom
   code-more zero h e k = absurd (omega arith)
   code-more (suc g) h e k = rw (full, e, ne-eqb (kindIn t) 1 k)
+
+  -- the place of what the code is told of
+  pub place-refused : (g : ℕ) → length t ≤ g → (recordCode start words upper t ≡ 0 → ⊥) → refusedFrom g start words upper t ≡ 0
+  unfolding refusedFrom
+  place-refused zero h e = absurd (omega arith)
+  place-refused (suc g) h e = rw (full, ne-eqb (recordCode start words upper t) 0 e)
+
+  pub place-ended : (g : ℕ) → length t ≤ g → recordCode start words upper t ≡ 0 → kindIn t ≡ 1 → refusedFrom g start words upper t ≡ digitsIn t + 2 + 0
+  unfolding refusedFrom
+  place-ended zero h e k = absurd (omega arith)
+  place-ended (suc g) h e k = rw (full, e, k)
+
+  pub place-more : (g : ℕ) → length t ≤ g → recordCode start words upper t ≡ 0 → (kindIn t ≡ 1 → ⊥)
+      → refusedFrom g start words upper t ≡ digitsIn t + 2 + refusedFrom (less g) start words (upperAfter upper t) (restOf t)
+  unfolding refusedFrom
+  place-more zero h e k = absurd (omega arith)
+  place-more (suc g) h e k = rw (full, e, ne-eqb (kindIn t) 1 k)
 
   pub said-more : (g : ℕ) → length t ≤ g → saidFrom g upper t ≡ saidBy upper t ++ saidFrom (less g) (upperAfter upper t) (restOf t)
   unfolding saidFrom

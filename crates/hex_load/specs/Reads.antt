@@ -30,12 +30,12 @@ pub record Head (text : List ℕ) (h : ℕ) : Type 0 where
 -- so does one of a text that begins with a record, or would if the bytes behind the first eight digits were digits too
 pub record Begins (text : List ℕ) (h : ℕ) : Type 0 where
   pub head : Head text h
-  pub low : h < 4294967296
+  pub low : h < 2 ^ 32
   pub sums : (h + h / 256 + h / 65536 + h / 16777216) % 256 ≡ sumOr (take 8 (drop 1 text))
   pub fits : digitsIn text + 1 < length text
   pub digits : isRecord text ≡ allDigits (take (digitsIn text) (drop 1 text))
 
 -- the number is such a one, or 2^32 where a text begins with no record
 pub record HeadOf (text : List ℕ) (h : ℕ) : Type 0 where
-  pub no : h ≡ 4294967296 → isRecord text ≡ false
-  pub yes : (h ≡ 4294967296 → ⊥) → Begins text h
+  pub no : h ≡ 2 ^ 32 → isRecord text ≡ false
+  pub yes : (h ≡ 2 ^ 32 → ⊥) → Begins text h

@@ -1,15 +1,15 @@
 // A HEX text is loaded into a window, a lent run of words with a start address. It is looked at whole before a byte is stored. Bytes
 // are read up to four at a time, by the eight digits that end with theirs.
 ghost use mathlib.Core.Path.{_≡_};
-ghost use mathlib.Core.Bool.{true};
+ghost use mathlib.Core.Bool.{true, cond};
 ghost use mathlib.Core.List.{List, [], _∷_};
-ghost use Prim.Native.Nat.{_+_, _-_, _*_, _/_, _%_, _≤_, _<_};
+ghost use Prim.Native.Nat.{_+_, _-_, _*_, _/_, _%_, _^_, _≤_, _<_};
 ghost use lib.ListN.{length, take, drop};
 ghost use lib.Seq.{sets};
 ghost use Rattle.hex.specs.Hex.{allDigits};
 ghost use Rattle.eight.specs.Packed.{numberOr};
 ghost use Rattle.records.specs.Window.{windowBytes, bytePlace};
-ghost use Rattle.records.specs.Load.{bytesIn, isKind, isRecord, upperAfter, allInside, recordCode, codeFrom, saidBy, said, stored, loadOf};
+ghost use Rattle.records.specs.Load.{bytesIn, isKind, isRecord, upperAfter, allInside, recordCode, codeFrom, refusedFrom, refusedAt, saidBy, said, stored, loadOf};
 ghost use Rattle.hex_load.specs.Reads.{lowBytes, sumOr, Head, HeadOf};
 use machine::codes;
 
@@ -44,7 +44,7 @@ fn word_at(text: &[u8], i: usize) -> u64
 
 // The sum of a number's four bytes, modulo 256.
 fn byte_sum(w: u64) -> u32
-    requires { ⌜ w < 4294967296 ⌝ }
+    requires { ⌜ w < 2 ^ 32 ⌝ }
     ensures { λ r. ⌜ (r ≡ (w + w / 256 + w / 65536 + w / 16777216) % 256) × (r < 256) ⌝ }
 {
     ((w + w / 0x100 + w / 0x1_0000 + w / 0x100_0000) % 256) as u32
@@ -115,15 +115,15 @@ fn head_at(text: &[u8], at: usize) -> u64
 
 // The place of an address among the window's bytes.
 fn place(start: u32, a: u64) -> u64
-    requires { ⌜ a < 8589934592 ⌝ }
-    ensures { λ r. ⌜ (r ≡ bytePlace start a) × (r < 4294967296) ⌝ }
+    requires { ⌜ a < 2 ^ 33 ⌝ }
+    ensures { λ r. ⌜ (r ≡ bytePlace start a) × (r < 2 ^ 32) ⌝ }
 {
     (a + (ADDRESSES - start as u64)) % ADDRESSES
 }
 
 // Whether n addresses from one on belong to the window: the first is so far from its end.
 fn all_inside(start: u32, words: usize, a: u64, n: usize) -> bool
-    requires { ⌜ (a < 4294967296) × (n < 256) × (words ≤ 16384) ⌝ }
+    requires { ⌜ (a < 2 ^ 32) × (n < 256) × (words ≤ 16384) ⌝ }
     ensures { λ r. ⌜ r ≡ allInside start words a n ⌝ }
 {
     (n == 0) | (place(start, a) + n as u64 <= 4 * words as u64)
@@ -163,10 +163,22 @@ fn upper_after(text: &[u8], at: usize, h: u64, upper: u32) -> u32
     upper
 }
 
-// The first code that applies to a text, 0 if none does.
-fn text_code(text: &[u8], start: u32, words: usize) -> u32
+// The code of a text past its end record: whether more stands there.
+fn behind_end(more: bool) -> u32
+    ensures { λ r. ⌜ r ≡ cond more 19 0 ⌝ }
+{
+    if more { codes::NO_END_OR_NOT_LAST } else { codes::DONE }
+}
+
+// The first code that applies to a text, 0 if none does, and the place in the text that it is told of.
+struct Found {
+    code: u32,
+    at: usize,
+}
+
+fn found_in(text: &[u8], start: u32, words: usize) -> Found
     requires { ⌜ words ≤ 16384 ⌝ }
-    ensures { λ r. ⌜ r ≡ codeFrom (length (now (text .entry))) start words 0 (now (text .entry)) ⌝ }
+    ensures { λ r. ⌜ (r .code ≡ codeFrom (length (now (text .entry))) start words 0 (now (text .entry))) × (r .at ≡ refusedFrom (length (now (text .entry))) start words 0 (now (text .entry))) × (r .at ≤ length (now (text .entry))) ⌝ }
 {
     let mut at = 0;
     let mut upper = 0;
@@ -174,20 +186,22 @@ fn text_code(text: &[u8], start: u32, words: usize) -> u32
         let h = head_at(text, at);
         let code = record_code(text, at, h, start, words, upper);
         if code != codes::DONE {
-            return code;
+            return Found { code, at };
         }
         let next = at + (2 * (h / 0x100_0000) as usize + 10 + 2);
         if h % 256 == 1 {
-            return if next < text.len() {
-                codes::NO_END_OR_NOT_LAST
-            } else {
-                codes::DONE
+            return Found {
+                code: behind_end(next < text.len()),
+                at: next,
             };
         }
         upper = upper_after(text, at, h, upper);
         at = next;
     }
-    codes::NO_END_OR_NOT_LAST
+    Found {
+        code: codes::NO_END_OR_NOT_LAST,
+        at,
+    }
 }
 
 // ---- the stores
@@ -270,9 +284,20 @@ pub fn load(memory: &mut [u32], start: u32, text: &[u8]) -> u32
     if window::is_window_out_of_form(start, memory.len()) {
         return codes::WINDOW_OUT_OF_FORM;
     }
-    let code = text_code(text, start, memory.len());
+    let code = found_in(text, start, memory.len()).code;
     if code == codes::DONE {
         store_text(memory, start, text);
     }
     code
+}
+
+// Where in a text its load into a window of so many words is refused: the place of the record that has the code, of what stands behind
+// the end record, or the text's end. 0 for a window out of form; of a text that is not refused, its length.
+pub fn refused_at(words: usize, start: u32, text: &[u8]) -> usize
+    ensures { λ r. ⌜ (r ≡ refusedAt start words (now (text .entry))) × (r ≤ length (now (text .entry))) ⌝ }
+{
+    if window::is_window_out_of_form(start, words) {
+        return 0;
+    }
+    found_in(text, start, words).at
 }

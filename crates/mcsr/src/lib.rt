@@ -78,18 +78,18 @@ fn from_addon_status(fill: WordFill) -> u32
 pub fn mcsr_read(b: Bank) -> u32
     ensures { λ r. ⌜ ((mail pci addon : List ℕ) → r ≡ mcsrRead (stateIn b mail pci addon)) ⌝ }
 {
-    let write_zero = flag(count::is_zero(b.write_count), WRITE_COUNT_ZERO);
-    let read_zero = flag(count::is_zero(b.read_count), READ_COUNT_ZERO);
-    let out = from_addon_status(b.addon_fill);
-    let back = from_pci_status(b.pci_fill);
-    b.mcsr | (write_zero | read_zero | (out * ABOVE | back))
+    let write_zero = flag(count::is_zero(b.addon_count), WRITE_COUNT_ZERO);
+    let read_zero = flag(count::is_zero(b.pci_count), READ_COUNT_ZERO);
+    let from_addon = from_addon_status(b.addon_fill);
+    let from_pci = from_pci_status(b.pci_fill);
+    b.mcsr | (write_zero | read_zero | (from_addon * ABOVE | from_pci))
 }
 
 // AGCSTS as it is read: the two FIFOs the other way round.
 pub fn agcsts_read(b: Bank) -> u32
     ensures { λ r. ⌜ ((mail pci addon : List ℕ) → r ≡ agcstsRead (stateIn b mail pci addon)) ⌝ }
 {
-    let back = from_pci_status(b.pci_fill);
-    let out = from_addon_status(b.addon_fill);
-    back * ABOVE | out
+    let from_pci = from_pci_status(b.pci_fill);
+    let from_addon = from_addon_status(b.addon_fill);
+    from_pci * ABOVE | from_addon
 }

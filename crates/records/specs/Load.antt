@@ -90,6 +90,15 @@ codeFrom (suc most) start words upper text =
     (cond (eqb (kindIn text) 1) (cond (eqb (length (restOf text)) 0) done noEndOrNotLast) (codeFrom most start words (upperAfter upper text) (restOf text)))
     code)
 
+-- The place in a text of what that code is told of: the first record that has one, what stands behind the end record, or the text's end.
+unfoldable pub refusedFrom : ℕ → ℕ → ℕ → ℕ → List ℕ → ℕ
+refusedFrom zero start words upper text = 0
+refusedFrom (suc most) start words upper text =
+    cond (eqb (length text) 0) 0
+    (cond (eqb (recordCode start words upper text) done)
+    (digitsIn text + 2 + cond (eqb (kindIn text) 1) 0 (refusedFrom most start words (upperAfter upper text) (restOf text)))
+    0)
+
 -- a byte at an address
 pub record Said : Type 0 where
   pub address : ℕ
@@ -126,6 +135,9 @@ pub record Load : Type 0 where
 -- the window's form comes before the text
 unfoldable pub codeOf : ℕ → ℕ → List ℕ → ℕ
 codeOf start words text = cond (isWindowOutOfForm start words) windowOutOfForm (codeFrom (length text) start words 0 text)
+
+unfoldable pub refusedAt : ℕ → ℕ → List ℕ → ℕ
+refusedAt start words text = cond (isWindowOutOfForm start words) 0 (refusedFrom (length text) start words 0 text)
 
 -- a refusal leaves every word
 unfoldable pub loadOf : ℕ → List ℕ → List ℕ → Load

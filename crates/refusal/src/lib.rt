@@ -22,22 +22,22 @@ use machine::offsets;
 
 // Code 1, of both lanes: a fill, an address, a count. Each pair stands together: the compiler makes one test of it.
 fn are_lanes_out_of_form(b: Bank) -> bool
-    ensures { λ r. ⌜ r ≡ (ltb 8 (b .«pci_fill» .0) || ltb 8 (b .«addon_fill» .0) || ((not (eqb (b .«read_address» % 4) 0) || not (eqb (b .«write_address» % 4) 0)) || (ltb 0x03FF_FFFF (b .«read_count» .0) || ltb 0x03FF_FFFF (b .«write_count» .0)))) ⌝ }
+    ensures { λ r. ⌜ r ≡ (ltb 8 (b .«pci_fill» .0) || ltb 8 (b .«addon_fill» .0) || ((not (eqb (b .«pci_address» % 4) 0) || not (eqb (b .«addon_address» % 4) 0)) || (ltb 0x03FF_FFFF (b .«pci_count» .0) || ltb 0x03FF_FFFF (b .«addon_count» .0)))) ⌝ }
 {
     let fills = fifo::is_out_of_form(b.pci_fill) | fifo::is_out_of_form(b.addon_fill);
-    let addresses = (b.read_address % WORD_BYTES != 0) | (b.write_address % WORD_BYTES != 0);
-    let counts = count::is_out_of_form(b.read_count) | count::is_out_of_form(b.write_count);
+    let addresses = (b.pci_address % WORD_BYTES != 0) | (b.addon_address % WORD_BYTES != 0);
+    let counts = count::is_out_of_form(b.pci_count) | count::is_out_of_form(b.addon_count);
     fills | (addresses | counts)
 }
 
 // Whether a right stands together with an end of it. Mostly none stands, and no end is looked at.
 fn is_right_wrong(b: Bank) -> bool
-    ensures { λ r. ⌜ ((mail pci addon : List ℕ) → r ≡ (b .«read_right» && ended sides.pci (lane sides.pci (stateIn b mail pci addon)) (b .mcsr) (b .intcsr) || b .«write_right» && ended sides.addon (lane sides.addon (stateIn b mail pci addon)) (b .mcsr) (b .intcsr))) ⌝ }
+    ensures { λ r. ⌜ ((mail pci addon : List ℕ) → r ≡ (b .«pci_right» && ended sides.pci (lane sides.pci (stateIn b mail pci addon)) (b .mcsr) (b .intcsr) || b .«addon_right» && ended sides.addon (lane sides.addon (stateIn b mail pci addon)) (b .mcsr) (b .intcsr))) ⌝ }
 {
-    if !(b.read_right | b.write_right) {
+    if !(b.pci_right | b.addon_right) {
         return false;
     }
-    b.read_right & rights::is_read_ended(b) | b.write_right & rights::is_write_ended(b)
+    b.pci_right & rights::is_read_ended(b) | b.addon_right & rights::is_write_ended(b)
 }
 
 // Codes 1 and 2, or done: no step changes which.
@@ -161,17 +161,17 @@ pub fn write_cycle_code(b: Bank, start: u32, words: usize) -> u32
     if !word::bit(b.mcsr, mcsr::WRITE_ENABLE) {
         return codes::TRANSFER_OFF;
     }
-    if count::is_zero(b.write_count) {
+    if count::is_zero(b.addon_count) {
         return codes::COUNT_IS_ZERO;
     }
     if interrupts::is_abort_in(b.intcsr) {
         return codes::ABORT_STANDS;
     }
-    let four = word::bit(b.mcsr, mcsr::WRITE_FOUR) & !b.write_right;
+    let four = word::bit(b.mcsr, mcsr::WRITE_FOUR) & !b.addon_right;
     if !fifo::has_words(b.addon_fill, four) {
         return codes::FIFO_NOT_READY;
     }
-    if !window::is_inside(start, words, b.write_address) {
+    if !window::is_inside(start, words, b.addon_address) {
         return codes::NO_MEMORY_THERE;
     }
     codes::DONE
@@ -184,17 +184,17 @@ pub fn read_cycle_code(b: Bank, start: u32, words: usize) -> u32
     if !word::bit(b.mcsr, mcsr::READ_ENABLE) {
         return codes::TRANSFER_OFF;
     }
-    if count::is_zero(b.read_count) {
+    if count::is_zero(b.pci_count) {
         return codes::COUNT_IS_ZERO;
     }
     if interrupts::is_abort_in(b.intcsr) {
         return codes::ABORT_STANDS;
     }
-    let four = word::bit(b.mcsr, mcsr::READ_FOUR) & !b.read_right;
+    let four = word::bit(b.mcsr, mcsr::READ_FOUR) & !b.pci_right;
     if !fifo::has_room(b.pci_fill, four) {
         return codes::FIFO_NOT_READY;
     }
-    if !window::is_inside(start, words, b.read_address) {
+    if !window::is_inside(start, words, b.pci_address) {
         return codes::NO_MEMORY_THERE;
     }
     codes::DONE

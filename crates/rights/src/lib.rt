@@ -13,7 +13,7 @@ pub fn is_read_ended(b: Bank) -> bool
     ensures { λ r. ⌜ ((mail pci addon : List ℕ) → r ≡ ended sides.pci (lane sides.pci (stateIn b mail pci addon)) (b .mcsr) (b .intcsr)) ⌝ }
 {
     fifo::is_full(b.pci_fill)
-        | count::is_zero(b.read_count)
+        | count::is_zero(b.pci_count)
         | !word::bit(b.mcsr, mcsr::READ_FOUR)
         | !word::bit(b.mcsr, mcsr::READ_ENABLE)
         | interrupts::is_abort_in(b.intcsr)
@@ -24,7 +24,7 @@ pub fn is_write_ended(b: Bank) -> bool
     ensures { λ r. ⌜ ((mail pci addon : List ℕ) → r ≡ ended sides.addon (lane sides.addon (stateIn b mail pci addon)) (b .mcsr) (b .intcsr)) ⌝ }
 {
     fifo::is_empty(b.addon_fill)
-        | count::is_zero(b.write_count)
+        | count::is_zero(b.addon_count)
         | !word::bit(b.mcsr, mcsr::WRITE_FOUR)
         | !word::bit(b.mcsr, mcsr::WRITE_ENABLE)
         | interrupts::is_abort_in(b.intcsr)

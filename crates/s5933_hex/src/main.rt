@@ -1,6 +1,6 @@
 // The HEX program: a controller fresh from reset over 4,096 words of zeros from address 0, a HEX text loaded before its frames, or
-// the memory exported after them. Standard input has at most 1,048,576 bytes: the set line; a mode line, `E`, or `L` and the length
-// of a HEX text in eight digits; after `L` that text; frames. Which set a first line chooses, and what a text
+// the memory exported after them. Standard input has at most 1,048,576 bytes: the set line; a mode line, `E`, or `L` or `B` and the
+// length of a HEX text in eight digits; after `L` and `B` that text; frames. After `B` the memory is exported in place of the log. Which set a first line chooses, and what a text
 // and a piece of frames do, is proved of `input`, `hex_load`, `hex_export` and `log`; that they come in this order is read here and
 // tested.
 ghost use Prim.Native.Nat.{_≤_, _<_};
@@ -128,29 +128,44 @@ fn export(memory: &mut [u32], frames: &[u8], out: &mut [u8], set: u32) -> Ended 
     }
 }
 
-fn load(memory: &mut [u32], text: &[u8], frames: &[u8], out: &mut [u8], set: u32) -> Ended {
+// Says on standard error at which line of a HEX text its load is refused.
+fn tell_line(words: usize, text: &[u8]) {
+    let at = hex_load::refused_at(words, 0, text);
+    let before = lines::line_count(&text[..at]);
+    io::write_all(STDERR_FILENO, b"s5933_hex: refused at line ");
+    io::number::print_decimal(STDERR_FILENO, before as u64 + 1);
+    io::write_all(STDERR_FILENO, b" of the HEX text\n");
+}
+
+// Loads a HEX text, then answers frames, and prints their log, or in its place the memory after them as HEX.
+fn load(memory: &mut [u32], text: &[u8], frames: &[u8], out: &mut [u8], set: u32, exports: bool) -> Ended {
     let code = hex_load::load(memory, 0, text);
     if code != codes::DONE {
+        tell_line(memory.len(), text);
         return refuse(out, code, set);
+    }
+    if exports {
+        return export(memory, frames, out, set);
     }
     after_write(answer(memory, frames, out, set, true), Ended::Done)
 }
 
 // ---- the input
 
-// What a mode line asks for: an export, or a load of a text of so many bytes.
+// What a mode line asks for: an export, a load of a text of so many bytes, or both.
 enum Mode {
     Export,
     Load(usize),
+    Both(usize),
     Unknown,
 }
 
-// The length in a line of `L` and eight digits, 2^32 in any other.
-fn length_in(line: &[u8]) -> u64 {
+// The length in a line of a letter and eight digits, 2^32 in any other.
+fn length_in(line: &[u8], letter: u8) -> u64 {
     if line.len() != 9 {
         return eight::NONE;
     }
-    if line[0] != b'L' {
+    if line[0] != letter {
         return eight::NONE;
     }
     eight::number(
@@ -171,11 +186,23 @@ fn mode_in(line: &[u8]) -> Mode {
             return Mode::Export;
         }
     }
-    let n = length_in(line);
+    let n = length_in(line, b'L');
     if n < eight::NONE {
         return Mode::Load(n as usize);
     }
+    let m = length_in(line, b'B');
+    if m < eight::NONE {
+        return Mode::Both(m as usize);
+    }
     Mode::Unknown
+}
+
+// Loads the first n bytes, and answers the frames behind them.
+fn load_first(rest: &[u8], n: usize, memory: &mut [u32], out: &mut [u8], set: u32, exports: bool) -> Ended {
+    if rest.len() < n {
+        return misused(b"s5933_hex: the HEX text is shorter than its length says\n");
+    }
+    load(memory, &rest[..n], &rest[n..], out, set, exports)
 }
 
 // The input past the set line, under a set.
@@ -185,14 +212,10 @@ fn run_mode(text: &[u8], memory: &mut [u32], out: &mut [u8], set: u32) -> Ended 
     let rest = &text[past..];
     match mode {
         Mode::Export => export(memory, rest, out, set),
-        Mode::Load(n) => {
-            if rest.len() < n {
-                return misused(b"s5933_hex: the HEX text is shorter than its length says\n");
-            }
-            load(memory, &rest[..n], &rest[n..], out, set)
-        }
+        Mode::Load(n) => load_first(rest, n, memory, out, set, false),
+        Mode::Both(n) => load_first(rest, n, memory, out, set, true),
         Mode::Unknown => misused(
-            b"s5933_hex: the second line is neither E nor L and eight digits\n",
+            b"s5933_hex: the second line is neither E nor L or B and eight digits\n",
         ),
     }
 }
@@ -248,6 +271,7 @@ fn read_and_run(text: &mut [u8], memory: &mut [u32], out: &mut [u8]) -> Ended {
 fn main() {
     let mut text = [0u8; 1048577];
     let mut memory = [0u32; 4096];
+    // 41 bytes for each byte of a piece of 16,384, and for one line more: 16,385 times 41
     let mut out = [0u8; 671785];
     tell(read_and_run(&mut text, &mut memory, &mut out));
 }

@@ -109,6 +109,7 @@ fn tell(went: Went) {
 fn main() {
     let mut memory = [0u32; 4096];
     let mut bytes = [0u8; 16384];
+    // 41 bytes for each byte of a piece of 16,384, and for one line more: 16,385 times 41
     let mut out = [0u8; 671785];
     let mut i = input::start();
     let mut ended = Went::More;

@@ -147,16 +147,16 @@ fn write_state(c: Controller) {
     write_words(mail);
     write_number(c.marks);
     let from_pci = c.from_pci;
-    let read_right = from_pci.right;
+    let pci_right = from_pci.right;
     write_lane(from_pci);
     let from_addon = c.from_addon;
-    let write_right = from_addon.right;
+    let addon_right = from_addon.right;
     write_lane(from_addon);
     write_number(c.intcsr);
     write_number(c.mcsr);
     write_number(c.aint);
-    write_number(if write_right { 1 } else { 0 });
-    write_number(if read_right { 1 } else { 0 });
+    write_number(if addon_right { 1 } else { 0 });
+    write_number(if pci_right { 1 } else { 0 });
 }
 
 // Where the memory changed and to what; all ones and zero where it did not.

@@ -55,12 +55,12 @@ neither-stands true b e = absurd (true≢false (sym e))
 neither-stands false true e = absurd (true≢false (sym e))
 neither-stands false false e = (refl, refl)
 
-pub none-stands : (l : List ℕ) (b : Bank) → b ≡ bankIn l → not (b .«read_right» || b .«write_right») ≡ true → settled (stateOfWords l) ≡ stateOfWords l
+pub none-stands : (l : List ℕ) (b : Bank) → b ≡ bankIn l → not (b .«pci_right» || b .«addon_right») ≡ true → settled (stateOfWords l) ≡ stateOfWords l
 unfolding stateIn settled
-none-stands l b e h = rw (sym (λ i. e i .«read_right») ∙ none .0, sym (λ i. e i .«write_right») ∙ none .1)
+none-stands l b e h = rw (sym (λ i. e i .«pci_right») ∙ none .0, sym (λ i. e i .«addon_right») ∙ none .1)
   where
-    none : (b .«read_right» ≡ false) × (b .«write_right» ≡ false)
-    none = neither-stands (b .«read_right») (b .«write_right») h
+    none : (b .«pci_right» ≡ false) × (b .«addon_right» ≡ false)
+    none = neither-stands (b .«pci_right») (b .«addon_right») h
 
 pub either-way : (b : Bool) (x y : State) → x ≡ y → cond b x y ≡ y
 either-way true x y e = e

@@ -100,8 +100,8 @@ fn aborted(words: &mut [u32], address: u32) -> Answer
     let a = interrupts::aint_aborted(words[bank::AINT]);
     words[bank::INTCSR] = i;
     words[bank::AINT] = a;
-    words[bank::READ_RIGHT] = 0;
-    words[bank::WRITE_RIGHT] = 0;
+    words[bank::PCI_RIGHT] = 0;
+    words[bank::ADDON_RIGHT] = 0;
     answered(i, a, codes::NO_MEMORY_THERE, address, 0, 0, 0)
 }
 
@@ -115,16 +115,16 @@ fn pci_register(b: Bank, words: &[u32], offset: u32) -> u32
         return mailboxes::mail_word(words, offset);
     }
     if offset == offsets::WRITE_ADDRESS {
-        return b.write_address;
+        return b.addon_address;
     }
     if offset == offsets::WRITE_COUNT {
-        return count::shown(b.write_count);
+        return count::shown(b.addon_count);
     }
     if offset == offsets::READ_ADDRESS {
-        return b.read_address;
+        return b.pci_address;
     }
     if offset == offsets::READ_COUNT {
-        return count::shown(b.read_count);
+        return count::shown(b.pci_count);
     }
     if offset == offsets::STATUS {
         return b.marks;
@@ -345,7 +345,7 @@ fn clear_from_pci(words: &mut [u32], s: Step)
 {
     if commands::clears_from_pci(s) {
         words[bank::PCI_FILL] = 0;
-        words[bank::READ_RIGHT] = 0;
+        words[bank::PCI_RIGHT] = 0;
     }
 }
 
@@ -356,7 +356,7 @@ fn clear_from_addon(words: &mut [u32], s: Step)
 {
     if commands::clears_from_addon(s) {
         words[bank::ADDON_FILL] = 0;
-        words[bank::WRITE_RIGHT] = 0;
+        words[bank::ADDON_RIGHT] = 0;
     }
 }
 
@@ -384,14 +384,14 @@ fn pci_transfer(words: &mut [u32], s: Step) -> Answer
 {
     let i = words[bank::INTCSR];
     let a = words[bank::AINT];
-    let write_address = address::written(offsets::WRITE_ADDRESS, s, words[bank::WRITE_ADDRESS]);
-    let write_count = count::written(offsets::WRITE_COUNT, s, ByteCount(words[bank::WRITE_COUNT]));
-    let read_address = address::written(offsets::READ_ADDRESS, s, words[bank::READ_ADDRESS]);
-    let read_count = count::written(offsets::READ_COUNT, s, ByteCount(words[bank::READ_COUNT]));
-    words[bank::WRITE_ADDRESS] = write_address;
-    words[bank::WRITE_COUNT] = write_count.0;
-    words[bank::READ_ADDRESS] = read_address;
-    words[bank::READ_COUNT] = read_count.0;
+    let addon_address = address::written(offsets::WRITE_ADDRESS, s, words[bank::ADDON_ADDRESS]);
+    let addon_count = count::written(offsets::WRITE_COUNT, s, ByteCount(words[bank::ADDON_COUNT]));
+    let pci_address = address::written(offsets::READ_ADDRESS, s, words[bank::PCI_ADDRESS]);
+    let pci_count = count::written(offsets::READ_COUNT, s, ByteCount(words[bank::PCI_COUNT]));
+    words[bank::ADDON_ADDRESS] = addon_address;
+    words[bank::ADDON_COUNT] = addon_count.0;
+    words[bank::PCI_ADDRESS] = pci_address;
+    words[bank::PCI_COUNT] = pci_count.0;
     answered(i, a, codes::DONE, 0, 0, 0, 0)
 }
 
@@ -461,7 +461,7 @@ fn write_cycle(words: &mut [u32], memory: &mut [u32], start: u32) -> Answer
 {
     let b = bank::bank_in(words);
     let code = refusal::write_cycle_code(b, start, memory.len());
-    let address = words[bank::WRITE_ADDRESS];
+    let address = words[bank::ADDON_ADDRESS];
     if code == codes::NO_MEMORY_THERE {
         return aborted(words, address);
     }
@@ -472,7 +472,7 @@ fn write_cycle(words: &mut [u32], memory: &mut [u32], start: u32) -> Answer
     let head = words[bank::ADDON_HEAD];
     let front = fifo::front_place(head);
     let x = words[bank::ADDON_AT + front];
-    let count = ByteCount(words[bank::WRITE_COUNT]);
+    let count = ByteCount(words[bank::ADDON_COUNT]);
     let e = count::low_enables(count);
     memory[at] = word::merged(memory[at], x, e);
     let h = fifo::past(head);
@@ -482,14 +482,14 @@ fn write_cycle(words: &mut [u32], memory: &mut [u32], start: u32) -> Answer
     let less = count::count_left(count);
     let on = address::next_address(address);
     let four = word::bit(words[bank::MCSR], mcsr::WRITE_FOUR);
-    let right = bank::one_if(b.write_right | four);
+    let right = bank::one_if(b.addon_right | four);
     words[bank::INTCSR] = i;
     words[bank::AINT] = a;
-    words[bank::WRITE_ADDRESS] = on;
-    words[bank::WRITE_COUNT] = less.0;
+    words[bank::ADDON_ADDRESS] = on;
+    words[bank::ADDON_COUNT] = less.0;
     words[bank::ADDON_HEAD] = h;
     words[bank::ADDON_FILL] = n.0;
-    words[bank::WRITE_RIGHT] = right;
+    words[bank::ADDON_RIGHT] = right;
     answered(i, a, codes::DONE, address, x, e, 0)
 }
 
@@ -500,7 +500,7 @@ fn read_cycle(words: &mut [u32], memory: &[u32], start: u32) -> Answer
 {
     let b = bank::bank_in(words);
     let code = refusal::read_cycle_code(b, start, memory.len());
-    let address = words[bank::READ_ADDRESS];
+    let address = words[bank::PCI_ADDRESS];
     if code == codes::NO_MEMORY_THERE {
         return aborted(words, address);
     }
@@ -508,7 +508,7 @@ fn read_cycle(words: &mut [u32], memory: &[u32], start: u32) -> Answer
         return refused(b, code);
     }
     let at = window::place(start, address) as usize;
-    let count = ByteCount(words[bank::READ_COUNT]);
+    let count = ByteCount(words[bank::PCI_COUNT]);
     let e = count::low_enables(count);
     let x = word::shown(memory[at], e);
     let fill = WordFill(words[bank::PCI_FILL]);
@@ -519,14 +519,14 @@ fn read_cycle(words: &mut [u32], memory: &[u32], start: u32) -> Answer
     let less = count::count_left(count);
     let on = address::next_address(address);
     let four = word::bit(words[bank::MCSR], mcsr::READ_FOUR);
-    let right = bank::one_if(b.read_right | four);
+    let right = bank::one_if(b.pci_right | four);
     words[bank::PCI_AT + free] = x;
     words[bank::INTCSR] = i;
     words[bank::AINT] = a;
-    words[bank::READ_ADDRESS] = on;
-    words[bank::READ_COUNT] = less.0;
+    words[bank::PCI_ADDRESS] = on;
+    words[bank::PCI_COUNT] = less.0;
     words[bank::PCI_FILL] = n.0;
-    words[bank::READ_RIGHT] = right;
+    words[bank::PCI_RIGHT] = right;
     answered(i, a, codes::DONE, address, x, e, 0)
 }
 
@@ -631,16 +631,16 @@ fn settle(words: &mut [u32], code: u32)
     ensures { λ r. ⌜ Settled code (now (words .entry)) (now (words .exit)) ⌝ }
 {
     let b = bank::bank_in(words);
-    if !(b.read_right | b.write_right) {
+    if !(b.pci_right | b.addon_right) {
         return;
     }
     if code != codes::DONE {
         return;
     }
-    let read = bank::one_if(b.read_right & !rights::is_read_ended(b));
-    let write = bank::one_if(b.write_right & !rights::is_write_ended(b));
-    words[bank::READ_RIGHT] = read;
-    words[bank::WRITE_RIGHT] = write;
+    let read = bank::one_if(b.pci_right & !rights::is_read_ended(b));
+    let write = bank::one_if(b.addon_right & !rights::is_write_ended(b));
+    words[bank::PCI_RIGHT] = read;
+    words[bank::ADDON_RIGHT] = write;
 }
 
 // One step on a controller that stands as words: by `form`, a caller asks `refusal::form` once for many steps. Another number of words is a state out of form.

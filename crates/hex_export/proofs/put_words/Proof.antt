@@ -28,7 +28,7 @@ returns : tie.Need-returns Inv-loop μ-loop
 returns c =
     let p = c .before .before in
     let i = p .before .before in
-    let v = p .put-all .ensures in
+    let v = p .put-four-words .ensures in
     let e : i .before .before .before .args .n ≡ 4 = i .if1 .taken in
     (omega (arith, e, v .0), rw e (v .1), v .2, rw e (v .3))
 

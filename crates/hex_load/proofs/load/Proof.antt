@@ -34,8 +34,8 @@ module _ (start : ℕ) (words text : List ℕ) where
 returns : tie.Need-returns
 returns c = let a = c .before .before .before .before .args in load-bad (a .start) (now (a .memory)) (now (a .text)) (sym (c .before .is-window-out-of-form .ensures) ∙ c .if1 .taken)
 
-text-code-requires : tie.Need-text-code-requires
-text-code-requires c κs =
+found-in-requires : tie.Need-found-in-requires
+found-in-requires c κs =
     let a = c .before .before .before .before .args in
     good-window (a .start) (length (now (a .memory))) (sym (c .before .is-window-out-of-form .ensures) ∙ c .if1 .left)
 
@@ -45,7 +45,7 @@ store-text-requires c κs =
     let k = i .before in
     let w = k .before in
     let a = w .before .before .before .before .args in
-    (sym (k .text-code .ensures) ∙ i .if2 .taken, good-window (a .start) (length (now (a .memory))) (sym (w .before .is-window-out-of-form .ensures) ∙ w .if1 .left))
+    (sym (k .found-in .ensures .0) ∙ i .if2 .taken, good-window (a .start) (length (now (a .memory))) (sym (w .before .is-window-out-of-form .ensures) ∙ w .if1 .left))
 
 returns-2 : tie.Need-returns-2
 returns-2 c =
@@ -54,15 +54,15 @@ returns-2 c =
     let k = i .before in
     let w = k .before in
     let a = w .before .before .before .before .args in
-    load-done (a .start) (now (a .memory)) (now (a .text)) (k .text-code .result) (sym (w .before .is-window-out-of-form .ensures) ∙ w .if1 .left) (k .text-code .ensures) _ (i .if2 .taken) (s .store-text .ensures) (λ j h. c .slice-known2 .given j .fits)
+    load-done (a .start) (now (a .memory)) (now (a .text)) (k .found-in .result .code) (sym (w .before .is-window-out-of-form .ensures) ∙ w .if1 .left) (k .found-in .ensures .0) _ (i .if2 .taken) (s .store-text .ensures) (λ j h. c .slice-known2 .given j .fits)
 
 returns-3 : tie.Need-returns-3
 returns-3 c =
     let k = c .before in
     let w = k .before in
     let a = w .before .before .before .before .args in
-    load-refused (a .start) (now (a .memory)) (now (a .text)) (k .text-code .result) (sym (w .before .is-window-out-of-form .ensures) ∙ w .if1 .left) (k .text-code .ensures) (c .if2 .left)
+    load-refused (a .start) (now (a .memory)) (now (a .text)) (k .found-in .result .code) (sym (w .before .is-window-out-of-form .ensures) ∙ w .if1 .left) (k .found-in .ensures .0) (c .if2 .left)
 
 pub load-spec : {M : Type 1} → statement M
 load-spec =
-    tie.close (tie.spec (λ c κs. search needs) returns text-code-requires store-text-requires (λ c. search needs) returns-2 returns-3)
+    tie.close (tie.spec (λ c κs. search needs) returns found-in-requires store-text-requires (λ c. search needs) returns-2 returns-3)

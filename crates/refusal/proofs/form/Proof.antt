@@ -26,19 +26,19 @@ abbrev early : tie.After-are-lanes-out-of-form → Bool
 early k = k .are-lanes-out-of-form .result || not (k .before .before .before .is-only .result) || not (k .before .before .is-only2 .result) || not (k .before .is-only3 .result)
 
 abbrev wrong : Bank → List ℕ → List ℕ → List ℕ → Bool
-wrong b mail places behind = b .«read_right» && ended pci (lane pci (stateIn b mail places behind)) (b .mcsr) (b .intcsr) || b .«write_right» && ended addon (lane addon (stateIn b mail places behind)) (b .mcsr) (b .intcsr)
+wrong b mail places behind = b .«pci_right» && ended pci (lane pci (stateIn b mail places behind)) (b .mcsr) (b .intcsr) || b .«addon_right» && ended addon (lane addon (stateIn b mail places behind)) (b .mcsr) (b .intcsr)
 
 whole : (k : tie.After-are-lanes-out-of-form) (mail places behind : List ℕ) → isOutOfForm (stateIn (k .before .before .before .before .args .b) mail places behind) ≡ (early k || wrong (k .before .before .before .before .args .b) mail places behind)
 unfolding stateIn isOutOfForm
 whole k mail places behind =
     let b = k .before .before .before .before .args .b in
-    let read = b .«read_right» && ended pci (lane pci (stateIn b mail places behind)) (b .mcsr) (b .intcsr) in
-    let write = b .«write_right» && ended addon (lane addon (stateIn b mail places behind)) (b .mcsr) (b .intcsr) in
-    let high = ltb 0x03FF_FFFF (b .«read_count» .0) || ltb 0x03FF_FFFF (b .«write_count» .0) in
-    let odd = not (eqb (b .«read_address» % 4) 0) || not (eqb (b .«write_address» % 4) 0) in
+    let read = b .«pci_right» && ended pci (lane pci (stateIn b mail places behind)) (b .mcsr) (b .intcsr) in
+    let write = b .«addon_right» && ended addon (lane addon (stateIn b mail places behind)) (b .mcsr) (b .intcsr) in
+    let high = ltb 0x03FF_FFFF (b .«pci_count» .0) || ltb 0x03FF_FFFF (b .«addon_count» .0) in
+    let odd = not (eqb (b .«pci_address» % 4) 0) || not (eqb (b .«addon_address» % 4) 0) in
     let lanes = (λ i. ltb 8 (length-from 8 0 places (b .«pci_head») (b .«pci_fill» .0) i) || ltb 8 (length-from 8 0 behind (b .«addon_head») (b .«addon_fill» .0) i) || (odd || high)) ∙ sym (k .are-lanes-out-of-form .ensures) in
-    in-pairs (ltb 8 (length (from 8 0 places (b .«pci_head») (b .«pci_fill» .0)))) (not (eqb (b .«read_address» % 4) 0)) (ltb 0x03FF_FFFF (b .«read_count» .0)) read
-    (ltb 8 (length (from 8 0 behind (b .«addon_head») (b .«addon_fill» .0)))) (not (eqb (b .«write_address» % 4) 0)) (ltb 0x03FF_FFFF (b .«write_count» .0)) write
+    in-pairs (ltb 8 (length (from 8 0 places (b .«pci_head») (b .«pci_fill» .0)))) (not (eqb (b .«pci_address» % 4) 0)) (ltb 0x03FF_FFFF (b .«pci_count» .0)) read
+    (ltb 8 (length (from 8 0 behind (b .«addon_head») (b .«addon_fill» .0)))) (not (eqb (b .«addon_address» % 4) 0)) (ltb 0x03FF_FFFF (b .«addon_count» .0)) write
     (not (only (interruptsHeld pci) (b .intcsr))) (not (only mcsrKept (b .mcsr))) (not (only (interruptsHeld addon) (b .aint)))
     ∙ (λ i. lanes i || not (sym (k .before .before .before .is-only .ensures) i) || not (sym (k .before .before .is-only2 .ensures) i) || not (sym (k .before .is-only3 .ensures) i) || (read || write))
 

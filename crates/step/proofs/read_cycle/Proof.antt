@@ -84,7 +84,7 @@ returns-3 c =
     let count = c .before .before .before .before .before .before .count-left in
     let on = c .before .before .before .before .before .next-address in
     let earned = c .before .one-if in
-    let right = ap isRight (earned .ensures) ∙ right-word (b .result .«read_right» || c .before .before .before .bit .result) ∙ (λ j. b .ensures j .«read_right» || c .before .before .before .bit .ensures j) ∙ right-after pci st start (length memory) zero in
+    let right = ap isRight (earned .ensures) ∙ right-word (b .result .«pci_right» || c .before .before .before .bit .result) ∙ (λ j. b .ensures j .«pci_right» || c .before .before .before .bit .ensures j) ∙ right-after pci st start (length memory) zero in
     let reply : Reply = record { address = getD l 28 0; value = x .result; enables = low .result; changed = 0 } in
     let here = mod-lt (getD l 30 0 + getD l 31 0) {m = 8} (omega arith) in
     let e = stand-numbers ((25, i .result) ∷ (27, a .result) ∷ (28, on .result) ∷ (29, count .result .0) ∷ (31, more .result .0) ∷ (36, earned .result) ∷ []) refl (stand-pci (stand l (f .pre)) (at .result) (x .result) (omega (arith, at .ensures, here))) in (
@@ -95,7 +95,7 @@ returns-3 c =
           (simp (x .ensures, low .ensures, c .before .before .before .before .before .before .before .before .before .before .before .before .before .before .before .before .before .before .before .place .ensures))
           (rw (one-more-in (getD l 31 0) (more .result .0) (more .ensures) some, at .ensures, from-push 8 0 (pciIn l) (getD l 30 0) (getD l 31 0) (x .result) some (part-length 8 8 l (omega (arith, f .pre))), a .ensures, i .ensures, count .ensures, on .ensures) (read-cycle-state st offset enables value (x .result) (isRight (earned .result)) right))
           (c .answered .ensures _ refl refl),
-      kept-by l reply (c .answered .result) e (c .answered .ensures _ refl refl) (λ h. rw (and-right (ltb (getD l 36 0) 2) (ltb (getD l 37 0) 2) h, earned .ensures, right-small (b .result .«read_right» || c .before .before .before .bit .result))),
+      kept-by l reply (c .answered .result) e (c .answered .ensures _ refl refl) (λ h. rw (and-right (ltb (getD l 36 0) 2) (ltb (getD l 37 0) 2) h, earned .ensures, right-small (b .result .«pci_right» || c .before .before .before .bit .result))),
     )
 
 pub read-cycle-spec : {M : Type 1} → statement M

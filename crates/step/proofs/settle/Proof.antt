@@ -41,13 +41,13 @@ returns-3 c =
     let p = pciIn l in
     let d = addonIn l in
     let read = ap isRight (r .one-if .ensures) ∙ right-word _
-    ∙ (λ i. b .ensures i .«read_right» && not ((r .before .before .is-read-ended .ensures m p d ∙ (λ j. ended pci (lane pci (stateIn (b .ensures j) m p d)) (b .ensures j .mcsr) (b .ensures j .intcsr))) i)) in
+    ∙ (λ i. b .ensures i .«pci_right» && not ((r .before .before .is-read-ended .ensures m p d ∙ (λ j. ended pci (lane pci (stateIn (b .ensures j) m p d)) (b .ensures j .mcsr) (b .ensures j .intcsr))) i)) in
     let write = ap isRight (c .one-if2 .ensures) ∙ right-word _
-    ∙ (λ i. b .ensures i .«write_right» && not ((c .before .before .is-write-ended .ensures m p d ∙ (λ j. ended addon (lane addon (stateIn (b .ensures j) m p d)) (b .ensures j .mcsr) (b .ensures j .intcsr))) i)) in
+    ∙ (λ i. b .ensures i .«addon_right» && not ((c .before .before .is-write-ended .ensures m p d ∙ (λ j. ended addon (lane addon (stateIn (b .ensures j) m p d)) (b .ensures j .mcsr) (b .ensures j .intcsr))) i)) in
     let e = stand-numbers ((36, r .one-if .result) ∷ (37, c .one-if2 .result) ∷ []) refl (stand l (f .pre)) in
     record {
       state = stand-state e ∙ rw (read, write, r .before .before .before .if2 .left);
-      rights = λ h. stand-rights e ∙ rw (r .one-if .ensures, c .one-if2 .ensures, right-small (b .result .«read_right» && not (r .before .before .is-read-ended .result)), right-small (b .result .«write_right» && not (c .before .before .is-write-ended .result)));
+      rights = λ h. stand-rights e ∙ rw (r .one-if .ensures, c .one-if2 .ensures, right-small (b .result .«pci_right» && not (r .before .before .is-read-ended .result)), right-small (b .result .«addon_right» && not (c .before .before .is-write-ended .result)));
       refused = λ z. absurd (true≢false (sym (ap (λ n. eqb n 0) (r .before .before .before .if2 .left)) ∙ z));
     }
 

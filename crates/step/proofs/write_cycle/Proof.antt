@@ -89,7 +89,7 @@ returns-3 c =
     let merged = c .before .before .before .before .before .before .before .before .before .before .before .before .before .before .merged in
     let place = c .before .before .before .before .before .before .before .before .before .before .before .before .before .before .before .before .before .before .before .before .before .place in
     let earned = c .before .one-if in
-    let right = ap isRight (earned .ensures) ∙ right-word (b .result .«write_right» || c .before .before .before .bit .result) ∙ (λ j. b .ensures j .«write_right» || c .before .before .before .bit .ensures j) ∙ right-after addon st start (length memory) zero in
+    let right = ap isRight (earned .ensures) ∙ right-word (b .result .«addon_right» || c .before .before .before .bit .result) ∙ (λ j. b .ensures j .«addon_right» || c .before .before .before .bit .ensures j) ∙ right-after addon st start (length memory) zero in
     let reply : Reply = record { address = getD l 32 0; value = getD l (16 + at .result) 0; enables = low .result; changed = 0 } in
     let e = stand-numbers ((25, i .result) ∷ (27, a .result) ∷ (32, on .result) ∷ (33, count .result .0) ∷ (34, past .result) ∷ (35, less .result .0) ∷ (37, earned .result) ∷ []) refl (stand l (f .pre)) in (
       λ offset enables value.
@@ -100,7 +100,7 @@ returns-3 c =
           (rw (past .ensures, less .ensures, from-pop 8 0 (addonIn l) (getD l 34 0) (getD l 35 0) some, a .ensures, i .ensures, count .ensures, on .ensures) (write-cycle-state st offset enables value (reply .value) (isRight (earned .result)) right))
           (simp (merged .ensures, low .ensures, word, place .ensures))
           (c .answered .ensures _ refl refl),
-      kept-by l reply (c .answered .result) e (c .answered .ensures _ refl refl) (λ h. rw (and-left (ltb (getD l 36 0) 2) (ltb (getD l 37 0) 2) h, earned .ensures, right-small (b .result .«write_right» || c .before .before .before .bit .result))),
+      kept-by l reply (c .answered .result) e (c .answered .ensures _ refl refl) (λ h. rw (and-left (ltb (getD l 36 0) 2) (ltb (getD l 37 0) 2) h, earned .ensures, right-small (b .result .«addon_right» || c .before .before .before .bit .result))),
     )
 
 pub write-cycle-spec : {M : Type 1} → statement M

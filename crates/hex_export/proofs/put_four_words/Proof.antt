@@ -3,8 +3,8 @@ use native.Mathlib.Omega.{arith}
 use Rattle.output.proofs.Wrote.{wrote-then}
 use Rattle.hex_export.proofs.Bytes.{total-four, hexes-four}
 use borrow.Author.Needs.{needs}
-use Rattle.hex_export.proofs.put_all.Statement.{statement}
-use Rattle.hex_export.proofs.put_all.Tie as tie
+use Rattle.hex_export.proofs.put_four_words.Statement.{statement}
+use Rattle.hex_export.proofs.put_four_words.Tie as tie
 
 returns : tie.Need-returns
 returns c =
@@ -25,5 +25,5 @@ returns c =
           (wrote-then (wrote-then (wrote-then (p0 .put-word .ensures .1) (p1 .put-word2 .ensures .1)) (p2 .put-word3 .ensures .1)) (p3 .put-word4 .ensures .1)),
     )
 
-pub put-all-spec : {M : Type 1} → statement M
-put-all-spec = tie.close (tie.spec (λ c. search needs) (λ c. search needs) (λ c κs. search needs) (λ c. search needs) (λ c. search needs) (λ c. search needs) (λ c κs. search needs) (λ c. search needs) (λ c. search needs) (λ c. search needs) (λ c κs. search needs) (λ c. search needs) (λ c. search needs) (λ c. search needs) (λ c κs. search needs) (λ c κs. search needs) (λ c κs. search needs) (λ c. search needs) (λ c κs. search needs) (λ c. search needs) (λ c κs. search needs) (λ c. search needs) (λ c. search needs) returns)
+pub put-four-words-spec : {M : Type 1} → statement M
+put-four-words-spec = tie.close (tie.spec (λ c. search needs) (λ c. search needs) (λ c κs. search needs) (λ c. search needs) (λ c. search needs) (λ c. search needs) (λ c κs. search needs) (λ c. search needs) (λ c. search needs) (λ c. search needs) (λ c κs. search needs) (λ c. search needs) (λ c. search needs) (λ c. search needs) (λ c κs. search needs) (λ c κs. search needs) (λ c κs. search needs) (λ c. search needs) (λ c κs. search needs) (λ c. search needs) (λ c κs. search needs) (λ c. search needs) (λ c. search needs) returns)
