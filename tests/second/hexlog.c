@@ -3,6 +3,7 @@
  *
  *   hexlog export < FRAMES > TEXT
  *   hexlog load HEXFILE < FRAMES > LOG
+ *   hexlog both HEXFILE < FRAMES > TEXT
  *
  * FRAMES begin with a set line, ended by LF. The exit status is the code
  * of a refused load, and 1 where a file or an argument is none. */
@@ -84,8 +85,9 @@ int main(int argc, char **argv)
 {
     size_t n = fread(frames, 1, INPUT_MOST, stdin);
     bool is_load = argc == 3 && strcmp(argv[1], "load") == 0;
+    bool is_both = argc == 3 && strcmp(argv[1], "both") == 0;
     bool is_export = argc == 2 && strcmp(argv[1], "export") == 0;
-    int status = is_load ? load(argv[2]) : is_export ? 0 : 1;
+    int status = is_load || is_both ? load(argv[2]) : is_export ? 0 : 1;
 
     if (n < SET_LINE || frames[0] != '0' || frames[1] < '0'
         || frames[1] >= '0' + SETS || frames[2] != '\n')
@@ -93,5 +95,5 @@ int main(int argc, char **argv)
     if (status != 0)
         return status;
     run(frames + SET_LINE, frames + n, model_label[frames[1] - '0'], is_load);
-    return is_export ? put_export() : 0;
+    return is_load ? 0 : put_export();
 }
