@@ -167,7 +167,11 @@ fn upper_after(text: &[u8], at: usize, h: u64, upper: u32) -> u32
 fn behind_end(more: bool) -> u32
     ensures { λ r. ⌜ r ≡ cond more 19 0 ⌝ }
 {
-    if more { codes::NO_END_OR_NOT_LAST } else { codes::DONE }
+    if more {
+        codes::NO_END_OR_NOT_LAST
+    } else {
+        codes::DONE
+    }
 }
 
 // The first code that applies to a text, 0 if none does, and the place in the text that it is told of.

@@ -133,12 +133,19 @@ fn tell_line(words: usize, text: &[u8]) {
     let at = hex_load::refused_at(words, 0, text);
     let before = lines::line_count(&text[..at]);
     io::write_all(STDERR_FILENO, b"s5933_hex: refused at line ");
-    io::number::print_decimal(STDERR_FILENO, before as u64 + 1);
+    io::print_decimal(STDERR_FILENO, before as u64 + 1);
     io::write_all(STDERR_FILENO, b" of the HEX text\n");
 }
 
 // Loads a HEX text, then answers frames, and prints their log, or in its place the memory after them as HEX.
-fn load(memory: &mut [u32], text: &[u8], frames: &[u8], out: &mut [u8], set: u32, exports: bool) -> Ended {
+fn load(
+    memory: &mut [u32],
+    text: &[u8],
+    frames: &[u8],
+    out: &mut [u8],
+    set: u32,
+    exports: bool,
+) -> Ended {
     let code = hex_load::load(memory, 0, text);
     if code != codes::DONE {
         tell_line(memory.len(), text);
@@ -198,7 +205,14 @@ fn mode_in(line: &[u8]) -> Mode {
 }
 
 // Loads the first n bytes, and answers the frames behind them.
-fn load_first(rest: &[u8], n: usize, memory: &mut [u32], out: &mut [u8], set: u32, exports: bool) -> Ended {
+fn load_first(
+    rest: &[u8],
+    n: usize,
+    memory: &mut [u32],
+    out: &mut [u8],
+    set: u32,
+    exports: bool,
+) -> Ended {
     if rest.len() < n {
         return misused(b"s5933_hex: the HEX text is shorter than its length says\n");
     }
