@@ -20,5 +20,6 @@ pub mod CodeTable
 pub mod Messages
 pub mod Rights
 pub mod Bursts
+pub mod Transfers
 pub mod Fits
 pub mod Unique

@@ -70,6 +70,10 @@ cycle-is : (side : Side) (k : ℕ) → cycles side (kindOf k) ≡ eqb k (cycleKi
 cycle-is pci k = named k .readCycle
 cycle-is addon k = named k .writeCycle
 
+pub count-written : (old : ℕ) (e : Event) → written countKept old (e .step .value) (e .step .enables) ≡ writtenOver old e % 2 ^ 26
+count-written old e =
+    written-low 26 old (e .step .value) (e .step .enables) ∙ ap (λ (w : ℕ). w % 2 ^ 26) (merged-bytes old (e .step .value) (e .step .enables))
+
 count-turned : (side : Side) (e : Event) (old : ℕ) → countAfter side (accessOf (e .step)) old ≡ bytesThen side e old
 unfolding countAfter
 count-turned side e old = by side
@@ -77,15 +81,12 @@ count-turned side e old = by side
     s : Step
     s = e .step
 
-    written-is : written countKept old (s .value) (s .enables) ≡ writtenOver old e % 2 ^ 26
-    written-is = written-low 26 old (s .value) (s .enables) ∙ ap (λ (w : ℕ). w % 2 ^ 26) (merged-bytes old (s .value) (s .enables))
-
     n : Named (s .kind)
     n = named (s .kind)
 
     by : (of : Side) → cond (writes host (countAt of) (accessOf s)) (written countKept old (s .value) (s .enables)) (cond (cycles of (kindOf (s .kind))) (countLeft old) old) ≡ bytesThen of e old
-    by pci = λ i. cond (n .pciWrite i && eqb (s .offset) 0x30) (written-is i) (cond (n .readCycle i) (countLeft old) old)
-    by addon = λ i. cond (n .pciWrite i && eqb (s .offset) 0x28) (written-is i) (cond (n .writeCycle i) (countLeft old) old)
+    by pci = λ i. cond (n .pciWrite i && eqb (s .offset) 0x30) (count-written old e i) (cond (n .readCycle i) (countLeft old) old)
+    by addon = λ i. cond (n .pciWrite i && eqb (s .offset) 0x28) (count-written old e i) (cond (n .writeCycle i) (countLeft old) old)
 
 -- a bit of MCSR that is kept, of byte 1
 mcsr-turned : (k : ℕ) → k < 32 → k / 8 ≡ 1 → bit mcsrKept k ≡ true → (e : Event) (old : ℕ) → bit (mcsrAfter (accessOf (e .step)) old) k ≡ mcsrThen k e (bit old k)

@@ -7,5 +7,6 @@ pub mod Events
 pub mod CodeTable
 pub mod Messages
 pub mod Rights
+pub mod Transfers
 pub mod Fits
 pub mod Unique
