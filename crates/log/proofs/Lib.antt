@@ -9,5 +9,6 @@ pub mod Pieces
 pub mod Turns
 pub mod Ends
 pub mod Forms
+pub mod Counts
 pub mod Unique
 pub mod Cut

@@ -27,7 +27,7 @@ frame-clip l (no h) =
     simp (ne-eqb (length (take 14 l)) 13 (λ e. omega arith), ne-eqb (length l) 13 (λ e. omega arith))
 
 -- l and k agree in them
-abbrev SameStart : List ℕ → List ℕ → Type 0
+abbrev pub SameStart : List ℕ → List ℕ → Type 0
 SameStart l k = take 14 l ≡ take 14 k
 
 pub take-clip : (n : ℕ) (l t : List ℕ) → take n (take n l ++ t) ≡ take n (l ++ t)
@@ -35,7 +35,7 @@ take-clip zero l t = refl
 take-clip (suc n) [] t = refl
 take-clip (suc n) (a ∷ l) t = ap (λ (r : List ℕ). a ∷ r) (take-clip n l t)
 
-same-more : (l k : List ℕ) (x : ℕ) → SameStart l k → SameStart (l ++ (x ∷ [])) (k ++ (x ∷ []))
+pub same-more : (l k : List ℕ) (x : ℕ) → SameStart l k → SameStart (l ++ (x ∷ [])) (k ++ (x ∷ []))
 same-more l k x e = sym (take-clip 14 l (x ∷ [])) ∙ ap (λ (r : List ℕ). take 14 (r ++ (x ∷ []))) e ∙ take-clip 14 k (x ∷ [])
 
 module _ (st : State) (start : ℕ) (memory : List ℕ) where

@@ -10,7 +10,7 @@ use mathlib.Core.List.{List, [], _∷_, _++_, append-assoc, append-nil}
 use native.Mathlib.Numerals.{add-one}
 use native.Mathlib.Omega.{arith}
 use native.Mathlib.Decide.{decLe, ℕ-discrete}
-use borrow.Author.Tests.{eqb-true}
+use borrow.Author.Tests.{eqb-true, eq-eqb, ne-eqb}
 use lib.ListN.{length, getD, take, drop, length-drop, length-append}
 use lib.Seq.{length-take-le, drop-cons, drop-drop}
 use lib.Dec.{eqb, ltb}
@@ -27,7 +27,7 @@ use Rattle.frame.specs.declared.Framed.the-variants.{Frame, NotAFrame}
 use Rattle.frame.proofs.Stands.{getd-within}
 use Rattle.frame.specs.Frame.{isFrame, frameOf, frameIn, framedOutcome}
 use Rattle.log.specs.declared.Turn.{Turn}
-use Rattle.log.specs.Log.{lineOutcome, answering, PieceOutcome, pieceOutcome}
+use Rattle.log.specs.Log.{lineOutcome, answering, PieceOutcome, pieceOutcome, framesIn}
 use Rattle.log.specs.Results.{TurnPromised}
 use Rattle.log.proofs.Carried.{fed-lf, fed-other, afterFed}
 use Rattle.log.proofs.Pieces.{frame-clip, take-clip}
@@ -60,6 +60,32 @@ module _ (st : State) (start : ℕ) (memory : List ℕ) where
 
   pub whole-line : (xs : List ℕ) → untilLf xs < length xs → pieceOutcome st start memory [] xs ≡ answered (take (untilLf xs) xs) (drop (suc (untilLf xs)) xs)
   whole-line xs h = line-from [] xs h
+
+-- what the lines of a piece say, likewise
+pub frames-lf : (begun : List ℕ) (x : ℕ) (xs : List ℕ) → x ≡ 10 → framesIn begun (x ∷ xs) ≡ frameOf begun ∷ framesIn [] xs
+unfolding framesIn
+frames-lf begun x xs e = simp (eq-eqb x 10 e)
+
+pub frames-other : (begun : List ℕ) (x : ℕ) (xs : List ℕ) → (x ≡ 10 → ⊥) → framesIn begun (x ∷ xs) ≡ framesIn (take 14 (begun ++ (x ∷ []))) xs
+unfolding framesIn
+frames-other begun x xs e = simp (ne-eqb x 10 e)
+
+-- what a line says, then the rest
+abbrev said : List ℕ → List ℕ → List Framed
+said line rest = frameOf line ∷ framesIn [] rest
+
+frames-by : (begun : List ℕ) (x : ℕ) (xs : List ℕ) → Dec (x ≡ 10)
+    → (untilLf xs < length xs → framesIn (take 14 (begun ++ (x ∷ []))) xs ≡ said ((begun ++ (x ∷ [])) ++ take (untilLf xs) xs) (drop (suc (untilLf xs)) xs))
+    → untilLf (x ∷ xs) < length (x ∷ xs)
+    → framesIn (take 14 begun) (x ∷ xs) ≡ said (begun ++ take (untilLf (x ∷ xs)) (x ∷ xs)) (drop (suc (untilLf (x ∷ xs))) (x ∷ xs))
+frames-by begun x xs (yes e) ih h = rw (until-lf x xs e, append-nil begun) (frames-lf (take 14 begun) x xs e ∙ rw (frame-clip begun (decLe (length begun) 14)))
+frames-by begun x xs (no e) ih h =
+    let u = until-more x xs e in
+    rw (u, ← append-assoc begun (x ∷ []) (take (untilLf xs) xs)) (frames-other (take 14 begun) x xs e ∙ rw (take-clip 14 begun (x ∷ [])) (ih (omega (arith, u))))
+
+frames-from : (begun xs : List ℕ) → untilLf xs < length xs → framesIn (take 14 begun) xs ≡ said (begun ++ take (untilLf xs) xs) (drop (suc (untilLf xs)) xs)
+frames-from begun [] h = absurd (omega arith)
+frames-from begun (x ∷ xs) h = frames-by begun x xs (ℕ-discrete x 10) (frames-from (begun ++ (x ∷ [])) xs) h
 
 -- ---- a frame
 
@@ -116,6 +142,7 @@ module _ (piece : List ℕ) (at : ℕ) (carried : List ℕ) (whole : length carr
         few = omega arith;
         whole = whole;
         fed = λ st start memory. whole-line st start memory (drop at piece) (omega (arith, u, length-drop at piece)) ∙ rw (u, rest, e);
+        says = frames-from [] (drop at piece) (omega (arith, u, length-drop at piece)) ∙ rw (u, rest, e);
       }
 
   pub part-takes : (line : List ℕ) (f : Framed) → line ≡ lineAt piece at → at ≤ length piece → at + length line < length piece → f ≡ frameOf line
@@ -137,6 +164,7 @@ module _ (piece : List ℕ) (at : ℕ) (carried : List ℕ) (whole : length carr
           few = omega arith;
           whole = whole;
           fed = λ st start memory. rw (add-one, e) (rw (drop-cons piece at 0 h) (fed-lf st start memory (take len carried) (getD piece at 0) (drop (suc at) piece) x));
+          says = rw (add-one, e) (rw (drop-cons piece at 0 h) (frames-lf (take len carried) (getD piece at 0) (drop (suc at) piece) x));
         }
 
     pub byte-takes : (bytes : List ℕ) (more : ℕ) → (getD piece at 0 ≡ 10 → ⊥) → length bytes ≡ 14 → more ≤ 14
@@ -149,6 +177,7 @@ module _ (piece : List ℕ) (at : ℕ) (carried : List ℕ) (whole : length carr
           few = few;
           whole = n;
           fed = λ st start memory. rw (add-one, ← e) (rw (drop-cons piece at 0 h) (fed-other st start memory (take len carried) (getD piece at 0) (drop (suc at) piece) x));
+          says = rw (add-one, ← e) (rw (drop-cons piece at 0 h) (frames-other (take len carried) (getD piece at 0) (drop (suc at) piece) x));
         }
 
 module _ {begun piece : List ℕ} {at : ℕ} {t : Turn} {bytes : List ℕ} (T : TurnPromised begun piece at t bytes) (st : State) (start : ℕ) (memory : List ℕ) (done : List Answer) where

@@ -3,3 +3,4 @@ pub mod Results
 pub mod Promises
 pub mod Unique
 pub mod Cut
+pub mod Counts

@@ -8,6 +8,7 @@ use Rattle.machine.specs.State.{State}
 use Rattle.machine.specs.Step.{Outcome}
 use Rattle.machine.specs.declared.Answer.{Answer}
 use Rattle.lines.specs.Lines.{lf, lines}
+use Rattle.frame.specs.declared.Framed.{Framed}
 use Rattle.frame.specs.Frame.{frameOf, framedOutcome}
 use Rattle.logline.specs.LogLine.{logLine}
 
@@ -66,3 +67,8 @@ pieceOutcome st start memory begun [] = record { state = st; memory = memory; be
 pieceOutcome st start memory begun (x ∷ xs) =
     let o = lineOutcome st start memory begun in
     cond (eqb x lf) (answering (o .answer) (pieceOutcome (o .state) start (o .memory) [] xs)) (pieceOutcome st start memory (take carried (begun ++ (x ∷ []))) xs)
+
+-- what the lines that end in a piece say, one by one
+unfoldable pub framesIn : List ℕ → List ℕ → List Framed
+framesIn begun [] = []
+framesIn begun (x ∷ xs) = cond (eqb x lf) (frameOf begun ∷ framesIn [] xs) (framesIn (take carried (begun ++ (x ∷ []))) xs)

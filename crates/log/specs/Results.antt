@@ -1,7 +1,7 @@
 -- What the functions that write a log leave, with room for it and without.
 use Prim.Native.Nat.{ℕ, _*_, _≤_, _<_}
 use mathlib.Core.Path.{_≡_}
-use mathlib.Core.List.{List, _++_}
+use mathlib.Core.List.{List, [], _∷_, _++_}
 use mathlib.Core.Bool.{Bool, true, cond}
 use lib.ListN.{length, take, drop}
 use lib.Dec.{ltb, leb}
@@ -19,7 +19,7 @@ use Rattle.log.specs.declared.Stream.{Stream}
 use Rattle.log.specs.declared.Streamed.{Streamed}
 use Rattle.log.specs.declared.Streaming.{Streaming}
 use Rattle.log.specs.declared.Turn.{Turn}
-use Rattle.log.specs.Log.{TextOutcome, PieceOutcome, logOf, textOutcome, answering, pieceOutcome}
+use Rattle.log.specs.Log.{TextOutcome, PieceOutcome, logOf, textOutcome, answering, pieceOutcome, framesIn}
 
 -- the output is too short for so many log lines of the greatest length
 unfoldable pub isShort : ℕ → List ℕ → Bool
@@ -100,6 +100,7 @@ pub record TurnPromised (begun piece : List ℕ) (at : ℕ) (t : Turn) (bytes : 
   pub few : t .len ≤ 14
   pub whole : length bytes ≡ 14
   pub fed : (st : State) (start : ℕ) (memory : List ℕ) → pieceOutcome st start memory begun (drop at piece) ≡ fedPast t bytes st start memory (drop (t .next) piece)
+  pub says : framesIn begun (drop at piece) ≡ cond (t .ended) (t .framed ∷ []) [] ++ framesIn (take (t .len) bytes) (drop (t .next) piece)
 
 pub record PieceLogged (set : ℕ) (f : PieceOutcome) (r : Streaming) (memory′ out : List ℕ) (at : ℕ) (out′ : List ℕ) : Type 0 where
   pub state : stateOf (r .stream .controller) ≡ f .state

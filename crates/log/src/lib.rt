@@ -1,8 +1,8 @@
 // The log of a text, and of a text that comes in pieces.
 ghost use mathlib.Core.Path.{_≡_};
-ghost use mathlib.Core.Bool.{true};
+ghost use mathlib.Core.Bool.{true, cond};
 ghost use mathlib.Core.List.{[]};
-ghost use Prim.Native.Nat.{_+_, _*_, _≤_, _<_, min};
+ghost use Prim.Native.Nat.{_+_, _*_, _%_, _^_, _≤_, _<_, min};
 ghost use lib.ListN.{length, take};
 ghost use Rattle.machine.specs.State.{State, resetState};
 ghost use Rattle.machine.specs.Step.{notAFrame};
@@ -16,11 +16,13 @@ ghost use Rattle.frame.specs.Frame.{framedOutcome};
 ghost use Rattle.logline.specs.LogLine.{lineRoom};
 ghost use Rattle.log.specs.Log.{lineOutcome, linesOutcome, pieceOutcome};
 ghost use Rattle.log.specs.Results.{RunPromised, TextLogged, begunOf, TurnPromised, PieceLogged, FeedPromised};
+ghost use Rattle.log.specs.Counts.{isDoneCycle, countOf, endCountOf, countedOutcome};
 use controller::Controller;
 use frame::Framed;
 use logline::LINE_ROOM;
 use machine::Answer;
 use machine::codes;
+use machine::kinds;
 use step::Stepped;
 
 // ---- a line
@@ -330,4 +332,89 @@ pub fn finish(s: Stream, memory: &mut [u32], start: u32, out: &mut [u8], set: u3
     let len = kept(s.len);
     let controller = s.controller;
     run(controller, memory, start, &bytes[..len], out, set)
+}
+
+// ---- the cycles of a text, counted
+
+// A stream after a piece, and how many write cycles and read cycles are done, modulo 2^32.
+pub struct Counted {
+    pub stream: Stream,
+    pub writes: u32,
+    pub reads: u32,
+}
+
+// Whether a line was a cycle of a kind, and is done.
+fn is_done_cycle(kind: u32, f: Framed, a: Answer) -> bool
+    ensures { λ r. ⌜ r ≡ isDoneCycle kind f a ⌝ }
+{
+    match f {
+        Framed::Frame(s) => a.code == codes::DONE && s.kind == kind,
+        Framed::NotAFrame => false,
+    }
+}
+
+// A number, and one more if something counts.
+fn counting(n: u32, counts: bool) -> u32
+    ensures { λ r. ⌜ r ≡ (n + cond counts 1 0) % 2 ^ 32 ⌝ }
+{
+    if counts {
+        return std::num::wrapping_add_u32(n, 1);
+    }
+    n
+}
+
+// One piece: the done cycles among the lines that end in it, besides those of the pieces before it. No log is written.
+pub fn count(
+    s: Stream,
+    memory: &mut [u32],
+    start: u32,
+    piece: &[u8],
+    writes: u32,
+    reads: u32,
+) -> Counted
+    ensures { λ r. ⌜ countedOutcome r (now (memory .exit)) ≡ countOf (stateOf (s .controller)) start (now (memory .entry)) (begunOf s) (now (piece .entry)) writes reads ⌝ }
+{
+    let mut words = bank::words_of(s.controller);
+    let form = refusal::form(bank::bank_in(&words), start, memory.len());
+    let mut bytes = s.bytes;
+    let mut len = kept(s.len);
+    let mut w = writes;
+    let mut r = reads;
+    let mut i = 0;
+    while i < piece.len() {
+        let t = taken(piece, i, &mut bytes, len);
+        i = t.next;
+        len = t.len;
+        if t.ended {
+            let f = t.framed;
+            let a = answer_words(&mut words, memory, start, form, f);
+            w = counting(w, is_done_cycle(kinds::WRITE_CYCLE, f, a));
+            r = counting(r, is_done_cycle(kinds::READ_CYCLE, f, a));
+        }
+    }
+    let controller = bank::controller_of(words);
+    let stream = Stream {
+        controller,
+        bytes,
+        len,
+    };
+    Counted {
+        stream,
+        writes: w,
+        reads: r,
+    }
+}
+
+// The end of the text ends a line that isn't empty, as an LF does; nothing is carried any more.
+pub fn count_end(s: Stream, memory: &mut [u32], start: u32, writes: u32, reads: u32) -> Counted
+    ensures { λ r. ⌜ countedOutcome r (now (memory .exit)) ≡ endCountOf (stateOf (s .controller)) start (now (memory .entry)) (begunOf s) writes reads ⌝ }
+{
+    if s.len == 0 {
+        return Counted {
+            stream: s,
+            writes,
+            reads,
+        };
+    }
+    count(s, memory, start, b"\n", writes, reads)
 }
