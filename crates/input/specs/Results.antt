@@ -18,7 +18,7 @@ use Rattle.input.specs.declared.FinishResult.{FinishResult}
 use Rattle.input.specs.declared.Passed.{Passed}
 use Rattle.input.specs.Input.{passing, InputOutcome, fedInput, endedInput}
 
--- inside: the bytes of the set line are passed
+-- the bytes of the set line are passed
 pub record PassedBy (reading : Reading) (piece : List ℕ) (r : Passed) : Type 0 where
   pub within : r .next ≤ length piece
   pub passes : passing reading piece ≡ record { reading = r .reading; rest = drop (r .next) piece }

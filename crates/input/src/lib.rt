@@ -110,13 +110,13 @@ fn byte_heard(line: SetLine, b: u8) -> Reading
 }
 
 // How far a reading comes, and the place past the bytes that it took for the set line.
-struct Passed {
-    reading: Reading,
-    next: usize,
+pub struct Passed {
+    pub reading: Reading,
+    pub next: usize,
 }
 
 // The bytes of a piece that belong to the set line are passed.
-fn set_line_passed(reading: Reading, piece: &[u8]) -> Passed
+pub fn set_line_passed(reading: Reading, piece: &[u8]) -> Passed
     ensures { λ r. ⌜ PassedBy reading (now (piece .entry)) r ⌝ }
 {
     let mut r = reading;
@@ -240,7 +240,7 @@ pub fn feed(i: Input, memory: &mut [u32], start: u32, piece: &[u8], out: &mut [u
 // ---- the end of the input
 
 // Whether the end of the input ends a set line.
-fn has_set(line: SetLine) -> bool
+pub fn has_set(line: SetLine) -> bool
     ensures { λ r. ⌜ r ≡ hasSet line ⌝ }
 {
     match line {

@@ -160,19 +160,27 @@ count-then r done begun w n =
     λ kind m. omega (arith, cycles-append kind done (r .events)) in
     λ i. record { state = r .state; memory = r .memory; begun = begun; writes = both 4 w i; reads = both 5 n i }
 
+-- a piece, then the rest of the text
+pub count-piece : (st : State) (start : ℕ) (memory begun p b : List ℕ) (w n : ℕ)
+    → (let c = countOf st start memory begun p w n in
+    countAfter (run (c .state) start (c .memory) (stepsIn (linesFrom (c .begun) b))) [] (c .writes) (c .reads) ≡ countAfter (run st start memory (stepsIn (linesFrom begun (p ++ b)))) [] w n)
+unfolding countOf
+count-piece st start memory begun p b w n =
+    let r = pieceRun st start memory begun p in
+    let begun′ = pieceOutcome st start memory begun p .begun in
+    let rest = stepsIn (linesFrom begun′ b) in
+    let steps : stepsIn (linesFrom begun (p ++ b)) ≡ stepsOf (framesIn begun p) ++ rest =
+    steps-said (linesFrom begun (p ++ b)) ∙ ap stepsOf (frames-told st start memory begun p b) ∙ steps-append (framesIn begun p) _ ∙ ap (λ (ss : List Step). stepsOf (framesIn begun p) ++ ss) (sym (steps-said (linesFrom begun′ b))) in
+    count-then (run (r .state) start (r .memory) rest) (r .events) [] w n
+    ∙ ap (λ (q : RunOutcome). countAfter q [] w n) (sym (ap (run st start memory) steps ∙ run-append st start memory (stepsOf (framesIn begun p)) rest))
+
 counts-from : (st : State) (start : ℕ) (memory begun : List ℕ) (pieces : List (List ℕ)) (w n : ℕ)
     → piecesCount st start memory begun pieces w n ≡ countAfter (run st start memory (stepsIn (linesFrom begun (joined pieces)))) [] w n
-unfolding piecesCount endCountOf countOf
+unfolding piecesCount endCountOf
 counts-from st start memory begun [] w n = refl
 counts-from st start memory begun (p ∷ more) w n =
     let c = countOf st start memory begun p w n in
-    let r = pieceRun st start memory begun p in
-    let rest = stepsIn (linesFrom (c .begun) (joined more)) in
-    let steps : stepsIn (linesFrom begun (p ++ joined more)) ≡ stepsOf (framesIn begun p) ++ rest =
-    steps-said (linesFrom begun (p ++ joined more)) ∙ ap stepsOf (frames-told st start memory begun p (joined more)) ∙ steps-append (framesIn begun p) _ ∙ ap (λ (ss : List Step). stepsOf (framesIn begun p) ++ ss) (sym (steps-said (linesFrom (c .begun) (joined more)))) in
-    counts-from (c .state) start (c .memory) (c .begun) more (c .writes) (c .reads)
-    ∙ count-then (run (r .state) start (r .memory) rest) (r .events) [] w n
-    ∙ ap (λ (q : RunOutcome). countAfter q [] w n) (sym (ap (run st start memory) steps ∙ run-append st start memory (stepsOf (framesIn begun p)) rest))
+    counts-from (c .state) start (c .memory) (c .begun) more (c .writes) (c .reads) ∙ count-piece st start memory begun p (joined more) w n
 
 pub counts-joined : CountsJoined
 counts-joined st start memory pieces = counts-from st start memory [] pieces 0 0
