@@ -4,7 +4,7 @@ use mathlib.Core.Path.{_≡_, refl, ap}
 use mathlib.Core.List.{List, []}
 use mathlib.Core.Bool.{Bool, true, false, cond}
 use native.Mathlib.Omega.{arith}
-use borrow.Author.Tests.{le-leb, lt-leb}
+use borrow.Author.Tests.{le-leb, lt-leb, leb-true}
 use lib.ListN.{length}
 use lib.Dec.{leb}
 use Rattle.machine.specs.declared.Answer.{Answer}
@@ -12,6 +12,8 @@ use Rattle.hex.specs.Hex.{hexDigits, digitOf, digits}
 use Rattle.logline.specs.Labels.{english, labelSets, labelIn, labelOf}
 use Rattle.logline.specs.LogLine.{numbers, logBody, logLine, refusal, lineRoom, lineIn}
 use Rattle.logline.specs.Promises.{LineRoom, MarksUnlogged, RefusalLine}
+use Rattle.output.specs.Wrote.{Wrote}
+use Rattle.output.proofs.Wrote.{wrote-length}
 use Rattle.logline.proofs.Labels.{line-fits}
 
 module _ (set : ℕ) (out : List ℕ) (at : ℕ) (a : Answer) where
@@ -30,6 +32,16 @@ module _ (set : ℕ) (out : List ℕ) (at : ℕ) (a : Answer) where
   pub line-in-fits : length (lineIn set out at a) ≤ lineRoom
   unfolding lineIn
   line-in-fits = fits-by (leb (at + lineRoom) (length out))
+
+-- what was written of a line is within the output
+module _ {set : ℕ} {out : List ℕ} {a : Answer} where
+  within-by : (t : Bool) → leb lineRoom (length out) ≡ t → length (cond t (logLine set a) []) ≤ length out
+  within-by true e = omega (arith, leb-true lineRoom (length out) e, line-fits set a)
+  within-by false e = zero-le
+
+  pub line-within : {r : ℕ} {out′ : List ℕ} → Wrote out 0 (lineIn set out 0 a) r out′ → r ≤ length out′
+  unfolding lineIn
+  line-within w = omega (arith, w .next, wrote-length w, within-by (leb lineRoom (length out)) refl)
 
 pub line-room : LineRoom
 line-room set out at a = (in-room set out at a, no-room set out at a)

@@ -1,5 +1,5 @@
 -- What is answered as written is within the output.
-use Prim.Native.Nat.{ℕ, _≤_, zero-le}
+use Prim.Native.Nat.{ℕ, _≤_}
 use mathlib.Core.Path.{_≡_, refl, ap, _∙_}
 use mathlib.Core.Bool.{Bool, true, false, cond}
 use mathlib.Core.List.{List, []}
@@ -9,10 +9,6 @@ use lib.ListN.{length, length-append}
 use lib.Dec.{ltb, leb}
 use Rattle.machine.specs.Window.{isWindowOutOfForm}
 use Rattle.lines.specs.Lines.{lines}
-use Rattle.logline.specs.LogLine.{refusing, logLine, lineRoom, lineIn}
-use Rattle.output.specs.Wrote.{Wrote}
-use Rattle.logline.proofs.Labels.{line-fits}
-use Rattle.output.proofs.Wrote.{wrote-length}
 use Rattle.controller.specs.declared.Controller.{Controller}
 use Rattle.log.specs.declared.Logged.the-variants.{NoRoom}
 use Rattle.log.specs.declared.Stream.{Stream}
@@ -49,21 +45,6 @@ run-is-within q = isWithin (q .log) (q .out)
 pub run-within : {set : ℕ} {c : Controller} {start : ℕ} {memory text out : List ℕ} {r : Ran} {memory′ out′ : List ℕ} → RunPromised set c start memory text out r memory′ out′ → isWithin (r .log) out′ ≡ true
 unfolding textRun
 run-within {text = text} {out = out} p = ap run-is-within (p .ran) ∙ either run-is-within (isShort (length (lines text)) out) (none-within out) (within _ out)
-
--- ---- a refusal
-
--- a line that is written where there is room for any line
-module _ (line out : List ℕ) (fits : length line ≤ lineRoom) where
-  line-by : (t : Bool) → leb lineRoom (length out) ≡ t → length (cond t line []) ≤ length out
-  line-by true e = omega (arith, leb-true lineRoom (length out) e)
-  line-by false e = zero-le
-
-  line-within : {r : ℕ} {out′ : List ℕ} → Wrote out 0 (cond (leb lineRoom (length out)) line []) r out′ → r ≤ length out′
-  line-within w = omega (arith, w .next, wrote-length w, line-by (leb lineRoom (length out)) refl)
-
-pub refusal-within : (set code : ℕ) {out : List ℕ} {r : ℕ} {out′ : List ℕ} → Wrote out 0 (lineIn set out 0 (refusing code)) r out′ → r ≤ length out′
-unfolding lineIn
-refusal-within set code {out} = line-within (logLine set (refusing code)) out (line-fits set (refusing code))
 
 -- ---- an export
 

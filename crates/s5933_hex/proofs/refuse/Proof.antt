@@ -1,10 +1,10 @@
-use Rattle.s5933_hex.proofs.Within.{refusal-within}
+use Rattle.logline.proofs.Room.{line-within}
 use borrow.Author.Needs.{needs}
 use Rattle.s5933_hex.proofs.refuse.Statement.{statement}
 use Rattle.s5933_hex.proofs.refuse.Tie as tie
 
 write-first-requires : tie.Need-write-first-requires
-write-first-requires c κs = refusal-within _ _ (c .before .before .before .put-refusal .ensures)
+write-first-requires c κs = line-within (c .before .before .before .put-refusal .ensures)
 
 pub refuse-spec : {M : Type 1} → statement M
 refuse-spec =
