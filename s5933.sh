@@ -1,12 +1,27 @@
 # shellcheck shell=bash
-# What the commands s5933-log and s5933-hex share: building a program where that is needed, and running it. A command says its name,
-# its crate, the folder that it stands in, and, as an installed copy, its own folder; docs/COMMANDS.md says what the exit statuses mean.
+# What the commands s5933-log, s5933-hex and s5933-count share: building a program where that is needed, and running it. A command says
+# its name, its crate, what its --build builds, the folder that it stands in, and, as an installed copy, its own folder; docs/COMMANDS.md
+# says what the exit statuses mean.
 # shellcheck disable=SC2154,SC2034
 target=$here/target program=${own:-$here/target/bin}/$crate version=${own:-$here}/VERSION
 
 say() { echo "$tool: $*" >&2; }
 die() { say "${@:2}"; exit "$1"; } # STATUS WORDS...
-alone() { [ $# = 1 ] || die 2 "$1 takes no other word, and has '${*:2}' behind it; $usage"; } # WORDS...
+build_nothing() { die 2 "$1: this is an installed copy, which builds nothing"; } # OPTION
+
+# The options that every command has, each the only word: the command's own `help`, the version, and building.
+# One of these ends the command; other words are its own.
+take_option() { # WORDS...
+    case ${1:-} in --help | --version | --build) ;; *) return 0 ;; esac
+    [ $# = 1 ] || die 2 "$1 takes no other word, and has '${*:2}' behind it; $usage"
+    case $1:${own:+installed} in
+        --help:*) help ;;
+        --version:*) printf '%s ' "$tool" && cat -- "$version" ;;
+        --build:) build "${built[@]}" ;;
+        *) build_nothing "$1" ;;
+    esac
+    exit
+}
 
 # Process ids of what runs beside the script, that of a group with a minus. A signal that ends the script kills it too; none of
 # it has anything to put in order. (Without an id `wait` would wait for all there is.)
@@ -25,11 +40,12 @@ trap 'stop 15' TERM
 # shellcheck disable=SC2016
 bound=(setpriv --pdeathsig KILL bash -p -c '[ "$PPID" = "$0" ] && exec "$@"' "$$")
 
-# ---- building: the programs s5933_log and s5933_hex, and s5933, the archive of the C calls
+# ---- building: the commands' programs, and s5933, the archive of the C calls
 
 # Of each its file, and the crates that rt makes it of.
-declare -A file=([s5933_log]=$target/bin/s5933_log [s5933_hex]=$target/bin/s5933_hex [s5933]=$target/staticlib/libs5933.a)
-declare -A made_of=([s5933_log]=s5933_log [s5933_hex]=s5933_hex [s5933]='station driver')
+programs=(s5933_log s5933_hex s5933_count)
+declare -A file=([s5933]=$target/staticlib/libs5933.a) made_of=([s5933]='station driver')
+for name in "${programs[@]}"; do file[$name]=$target/bin/$name made_of[$name]=$name; done
 
 # What all of it is made of: one sum over all sources, and the kit's line.
 origin() {
@@ -96,10 +112,10 @@ run_rt() {
     started=()
 }
 
-# on_pages CRATE FILE: its object, from a file of rt's, in which the loop over a piece of frames and each C call begin on a page; it is
+# on_pages CRATE FILE: its object, from a file of rt's, in which each loop over a piece of frames and each C call begin on a page; it is
 # target/pages/CRATE.o. An emulator is slower where a loop crosses pages, which else is left to where a linker happens to put it.
 on_pages() {
-    local section out=$target/pages/$1.o sections=(log::feed_bytes s5933_{log,step,hex_length,hex_export,hex_load})
+    local section out=$target/pages/$1.o sections=(log::{feed_bytes,count} s5933_{log,step,hex_length,hex_export,hex_load})
     mkdir -p -- "$target/pages"
     {
         echo 'SECTIONS {'
@@ -205,9 +221,10 @@ name_files() { # WORDS...
     done
 }
 
-# What the program needs to run.
+# The program, built where that is needed, and what it needs to run.
 find_program() {
     local tools
+    [ -n "$own" ] || build "$crate"
     tools=$(kit_tools) || [ -n "$own" ] || die 2 "rt, of the Rattle kit, is not on the PATH"
     find_emulator "$tools"
     lib=${own:-$tools/lib}
@@ -278,4 +295,13 @@ run() {
         *:129 | *:1[3-9][0-9]) die "$status" "signal $((status - 128)) ended the program" ;;
         *) die 1 "the program ended before its input did" ;;
     esac
+}
+
+# The program, over the files that the words name as one input.
+run_files() { # WORDS...
+    name_files "$@"
+    find_program
+    take_files "${files[@]}"
+    begin
+    run
 }
