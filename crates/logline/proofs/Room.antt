@@ -34,7 +34,7 @@ module _ (set : ℕ) (out : List ℕ) (at : ℕ) (a : Answer) where
   line-in-fits = fits-by (leb (at + lineRoom) (length out))
 
 -- what was written of a line is within the output
-module _ {set : ℕ} {out : List ℕ} {a : Answer} where
+module _ (set : ℕ) (out : List ℕ) (a : Answer) where
   within-by : (t : Bool) → leb lineRoom (length out) ≡ t → length (cond t (logLine set a) []) ≤ length out
   within-by true e = omega (arith, leb-true lineRoom (length out) e, line-fits set a)
   within-by false e = zero-le

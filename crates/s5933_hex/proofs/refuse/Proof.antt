@@ -4,7 +4,7 @@ use Rattle.s5933_hex.proofs.refuse.Statement.{statement}
 use Rattle.s5933_hex.proofs.refuse.Tie as tie
 
 write-first-requires : tie.Need-write-first-requires
-write-first-requires c κs = line-within (c .before .before .before .put-refusal .ensures)
+write-first-requires c κs = line-within _ _ _ (c .before .before .before .put-refusal .ensures)
 
 pub refuse-spec : {M : Type 1} → statement M
 refuse-spec =

@@ -4,7 +4,7 @@ use Rattle.s5933_hex.proofs.refuse_set.Statement.{statement}
 use Rattle.s5933_hex.proofs.refuse_set.Tie as tie
 
 write-first-requires : tie.Need-write-first-requires
-write-first-requires c κs = line-within (c .before .before .before .put-unknown-set .ensures)
+write-first-requires c κs = line-within _ _ _ (c .before .before .before .put-unknown-set .ensures)
 
 pub refuse-set-spec : {M : Type 1} → statement M
 refuse-set-spec =
