@@ -15,7 +15,7 @@ extern "C" {
 #endif
 
 /* The version of the model, as ./s5933-log --version prints it. */
-#define S5933_VERSION "1.7"
+#define S5933_VERSION "1.8"
 
 /* The longest input, in bytes. */
 #define S5933_INPUT_MOST 1048576

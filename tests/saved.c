@@ -152,7 +152,7 @@ static void refuse_each(const uint8_t *saved)
 static void refuse_with_sums(const uint8_t *saved)
 {
     static const char versions[][S5933_SAVED_VERSION_BYTES] = {
-        "1.6", "1.8", "1.70", "1.", "2.7", ""
+        "1.7", "1.9", "1.80", "1.", "2.8", ""
     };
     const size_t lengths[] = { S5933_SAVED_BYTES, 16, SUM_AT,
                                S5933_SAVED_BYTES + LONGER };
