@@ -1,6 +1,6 @@
 # shellcheck shell=bash
 # The lock of target/. What builds there, the commands and the project's own runs, takes it first and has it alone. It is the file
-# target.lock, beside target/, which rt ci removes, and says who has it. Those whom its holder starts have it too, by descriptor 9.
+# target.lock, beside target/, which may be removed, and says who has it. Those whom its holder starts have it too, by descriptor 9.
 # The commands tie what they start to themselves by `bound`, and know it as `started`; the other runs have neither.
 # shellcheck disable=SC2154,SC2034
 

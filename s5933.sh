@@ -42,9 +42,10 @@ bound=(setpriv --pdeathsig KILL bash -p -c '[ "$PPID" = "$0" ] && exec "$@"' "$$
 
 # ---- building: the commands' programs, and s5933, the archive of the C calls
 
-# Of each its file, and the crates that rt makes it of.
+# Of each its file, and the crates that rt makes it of. What rt makes of a crate it keeps in the crate's own out/, which rt ci sets aside;
+# what the commands make of that stands in target/, where nothing else does.
 programs=(s5933_log s5933_hex s5933_count)
-declare -A file=([s5933]=$target/staticlib/libs5933.a) made_of=([s5933]='station driver')
+declare -A file=([s5933]=$target/staticlib/libs5933.a) made_of=([s5933]='station_c driver_c')
 for name in "${programs[@]}"; do file[$name]=$target/bin/$name made_of[$name]=$name; done
 
 # What all of it is made of: one sum over all sources, and the kit's line.
@@ -68,23 +69,21 @@ unmade() {
     done
 }
 
-# How many crates NAME... are made of, the kit's left out.
-count_crates() {
-    local name names=''
-    for name; do names+=" ${made_of[$name]}"; done
-    awk -F: -v names="$names" '/^[a-z]/ { uses[$1] = $2 }
+# crates_of CRATE...: these crates and those below them, the kit's left out, each once.
+crates_of() {
+    awk -F: -v names="$*" '/^[a-z]/ { split($1, word, " "); uses[word[1]] = $2 }
         END {
             n = split(names, todo, " ")
             for (i = 1; i <= n; i++) if (todo[i] in uses && !seen[todo[i]]++) {
-                count++
+                print todo[i]
                 more = split(uses[todo[i]], use, " ")
                 for (k = 1; k <= more; k++) todo[++n] = use[k]
             }
-            print count + 0
         }' "$here/crates.txt"
 }
 
-# Progress, if the build takes longer than a moment: on a terminal one line that counts the seconds, else a line for each crate.
+# Progress, if the build takes longer than a moment: on a terminal one line that counts the seconds, else a line for each crate. Of a
+# library that it need not prove again rt says nothing; it counts once what is above it is proved.
 declare -A proved=()
 shown=
 show_progress() {
@@ -95,47 +94,56 @@ show_progress() {
     shown=${#proved[@]}
 }
 
-# run_rt WORDS...: rt, as a group of its own, so that all of it can be killed. What it printed is shown if it fails.
+# run_rt VERB CRATE: rt in the crate's folder, as a group of its own, so that all of it can be killed. `rt run` ends with the status of the
+# program, which it says that it runs once it has built it. What was printed is shown if nothing was built.
 run_rt() {
-    local line printed='' rt
-    exec 5< <(cd -- "$here" && exec setsid "${bound[@]}" rt "$@" 2>&1 </dev/null)
+    local line printed='' rt status=0 under='' built=''
+    exec 5< <(cd -- "$here/crates/$2" && exec setsid "${bound[@]}" rt "$1" 2>&1 </dev/null)
     rt=$!
     started=("-$rt" "$rt")
     while IFS= read -r -t 1 -u 5 line || [ $? -gt 128 ]; do
         printed+=${line:+$line$'\n'}
-        [[ ! $line =~ ^rt:\ ([a-z0-9_]+)\ proved && ! $line =~ ^rt:\ .*/lib([a-z0-9_]+)\.a ]] || proved[${BASH_REMATCH[1]}]=yes
+        [[ ! $line =~ ^crate\ ([a-z0-9_]+):\  ]] || under=${BASH_REMATCH[1]}
+        [[ ! $line =~ ^logic=proved\  || -z $under ]] || proved[$under]=yes
         show_progress
     done
     exec 5<&-
+    wait "$rt" || status=$?
+    [ "$1:$status" != lib:0 ] && [[ $'\n'$printed != *$'\nrt: running out/'"$2;"* ]] || built=yes
+    if [ -n "$built" ]; then
+        while IFS= read -r line; do proved[$line]=yes; done < <(crates_of "$2")
+        show_progress
+    fi
     [ -z "$shown" ] || [ ! -t 2 ] || echo >&2
-    wait "$rt" || { printf '%s' "$printed" >&2; die 2 "rt $* failed"; }
+    [ -n "$built" ] || { printf '%s' "$printed" >&2; die 2 "rt $1 failed in crates/$2"; }
     started=()
 }
 
 # on_pages CRATE FILE: its object, from a file of rt's, in which each loop over a piece of frames and each C call begin on a page; it is
 # target/pages/CRATE.o. An emulator is slower where a loop crosses pages, which else is left to where a linker happens to put it.
 on_pages() {
-    local section out=$target/pages/$1.o sections=(log::{feed_bytes,count} s5933_{log,step,hex_length,hex_export,hex_load})
+    local section out=$target/pages/$1.o sections=(frame_log::{feed_bytes,count} s5933_{log,step,hex_length,hex_export,hex_load})
     mkdir -p -- "$target/pages"
     {
         echo 'SECTIONS {'
         for section in "${sections[@]}"; do echo ".text.$section : ALIGN(4096) { *(.text.$section) }"; done
         echo '}'
     } >"$out.ld"
-    "$(kit_tools)/bin/ld.lld" -r -m elf_x86_64 -T "$out.ld" -o "$out" --whole-archive "$2" || die 2 "could not make $out"
+    "$(kit_home)/toolchain/bin/ld.lld" -r -m elf_x86_64 -T "$out.ld" -o "$out" --whole-archive "$2" || die 2 "could not make $out"
 }
 
-# For rt its stamp of a program stands for the program and its object, even if they are lost. What rt proved and compiled is linked anew,
-# as rt links it but on pages.
+# For rt its stamp of a program, which has the program's sum, stands for the object too, even if that is lost. What rt proved and compiled
+# is linked anew, as rt links it but on pages.
 make_program() { # CRATE
-    local object=$target/obj/$1.o new=${file[$1]}.new kit
-    { [ -s "${file[$1]}" ] && [ -s "$object" ]; } || rm -f -- "$target/stamp/$1"
-    run_rt check "$1"
-    on_pages "$1" "$object"
-    kit=$(kit_tools)
-    { "${kit%/*}/bin/rattle-link" --target x86_64-unknown-linux-gnu --toolchain "$kit" -o "$new" "$target/pages/$1.o" \
-        "${kit%/on/*}/lib/libos_c.a" 2>"$new.said" &&
-        mv -f -- "$new" "${file[$1]}"; } || { cat -- "$new.said" >&2; die 2 "could not link $1"; }
+    local out=$here/crates/$1/out new=${file[$1]}.new kit
+    [ -s "$out/$1.o" ] || rm -f -- "$out/$1.stamp"
+    run_rt run "$1"
+    on_pages "$1" "$out/$1.o"
+    kit=$(kit_home)
+    mkdir -p -- "${new%/*}"
+    { "$kit/bin/rattle-link" --target x86_64-unknown-linux-gnu --toolchain "$kit/toolchain" -o "$new" "$target/pages/$1.o" \
+        "$kit"/c/lib{os,libc}_c.a >"$new.said" 2>&1 && mv -f -- "$new" "${file[$1]}" && rm -f -- "$new.said"; } ||
+        { cat -- "$new.said" >&2; die 2 "could not link $1"; }
 }
 
 # rt compiles each crate by itself, so that no function has callers in both, and archives its object; the kit's llvm-ar puts the objects
@@ -143,12 +151,13 @@ make_program() { # CRATE
 make_archive() { # NAME
     local crate objects=() new=${file[$1]}.new
     for crate in ${made_of[$1]}; do
-        run_rt staticlib "$crate"
-        on_pages "$crate" "$target/staticlib/lib$crate.a"
+        run_rt lib "$crate"
+        on_pages "$crate" "$here/crates/$crate/out/lib$crate.a"
         objects+=("$target/pages/$crate.o")
     done
+    mkdir -p -- "${new%/*}"
     rm -f -- "$new"
-    { "$(kit_tools)/bin/llvm-ar" qcsD "$new" "${objects[@]}" && mv -f -- "$new" "${file[$1]}"; } || die 2 "could not make ${file[$1]}"
+    { "$(kit_home)/toolchain/bin/llvm-ar" qcsD "$new" "${objects[@]}" && mv -f -- "$new" "${file[$1]}"; } || die 2 "could not make ${file[$1]}"
 }
 
 # The mark comes last.
@@ -174,33 +183,29 @@ build() { # NAME...
     mkdir -p -- "$target" 2>/dev/null || die 2 "$target cannot be written"
     SECONDS=0
     mapfile -t todo < <(unmade "$@")
-    crates=$(count_crates "${todo[@]}")
+    # shellcheck disable=SC2046
+    crates=$(crates_of $(for name in "${todo[@]}"; do echo "${made_of[$name]}"; done) | wc -l)
     for name in "${todo[@]}"; do make_file "$name"; done
     exec 9>&-
 }
 
 # ---- running
 
-# The kit's folder, and in it the programs and libraries for this machine; none without the kit.
+# The kit's folder; none without the kit.
 kit_home() {
     local rt
-    rt=$(command -v rt) || [ -n "${RATTLE_HOME:-}" ] || return
-    echo "${RATTLE_HOME:-$(dirname "$(dirname "$(readlink -f "$rt")")")}"
-}
-kit_tools() {
-    local home
-    home=$(kit_home) && echo "$home/on/$(uname -m)/toolchain"
+    rt=$(command -v rt) && dirname "$(dirname "$(readlink -f "$rt")")"
 }
 
-# The program is x86-64 code. Elsewhere an emulator runs it, the kit's or the system's.
-find_emulator() { # TOOLS
+# The program is x86-64 code. Elsewhere, where the kit does not run, an installed copy's runs under the system's emulator.
+find_emulator() {
     local name
     emulator=()
     [ "$(uname -m)" != x86_64 ] || return 0
-    for name in "${1:+$1/bin/qemu-x86_64}" qemu-x86_64 qemu-x86_64-static; do
+    for name in qemu-x86_64 qemu-x86_64-static; do
         emulator=("$(command -v "$name")") && return
     done
-    die 2 "this is x86-64 code, and neither rt, of the Rattle kit, nor qemu-x86_64 (Debian's package qemu-user) is on the PATH"
+    die 2 "this is x86-64 code, and qemu-x86_64 (Debian's package qemu-user) is not on the PATH"
 }
 
 # What the words name, in `files`. A word that begins with - is a file only if the first word is --, which is none; - alone is standard
@@ -223,11 +228,11 @@ name_files() { # WORDS...
 
 # The program, built where that is needed, and what it needs to run.
 find_program() {
-    local tools
+    local kit
     [ -n "$own" ] || build "$crate"
-    tools=$(kit_tools) || [ -n "$own" ] || die 2 "rt, of the Rattle kit, is not on the PATH"
-    find_emulator "$tools"
-    lib=${own:-$tools/lib}
+    kit=$(kit_home) || [ -n "$own" ] || die 2 "rt, of the Rattle kit, is not on the PATH"
+    find_emulator
+    lib=${own:-$kit/toolchain/lib}
     loader=$lib/ld-linux-x86-64.so.2
     { [ -r "$program" ] && [ -r "$loader" ]; } || die 2 "$program or $loader is missing"
 }

@@ -10,19 +10,10 @@ trap 'rm -rf "$work"' EXIT
 # shellcheck source=lock.sh
 . ./lock.sh
 
-# The kit compiles for x86-64. On another processor C programs that link its archive are cross-compiled, and run under the
-# kit's emulator, as the log program is.
-kit=$(readlink -f "$(command -v rt)")
-tools=${RATTLE_HOME:-$(dirname "$(dirname "$kit")")}/on/$(uname -m)/toolchain
-if [ "$(uname -m)" = x86_64 ]; then
-    x86_cc=gcc
-    emulator=()
-else
-    x86_cc=x86_64-linux-gnu-gcc
-    emulator=("$tools/bin/qemu-x86_64")
-fi
+# The kit runs on x86-64, and compiles for it. Its loader and its C library run the programs, as the commands do.
+tools=$(dirname "$(dirname "$(readlink -f "$(command -v rt)")")")/toolchain
 # shellcheck disable=SC2034
-loader=("${emulator[@]}" "$tools/lib/ld-linux-x86-64.so.2" --library-path "$tools/lib")
+loader=("$tools/lib/ld-linux-x86-64.so.2" --library-path "$tools/lib")
 # shellcheck disable=SC2034
 program=target/bin/s5933_log
 # shellcheck disable=SC2034
@@ -82,9 +73,6 @@ provide_tools() {
     provide "gcc libc6-dev" compiles gcc -x c
     provide g++ compiles g++ -x c++
     provide make has make
-    [ "$x86_cc" = gcc ] && return
-    provide "gcc-x86-64-linux-gnu libc6-dev-amd64-cross" compiles "$x86_cc" -static -x c
-    has "${emulator[0]}" || echo "error: the kit has no emulator ${emulator[0]}"
 }
 
 # The log program and the archive, built if a source has changed; prints what is wrong.
@@ -92,14 +80,14 @@ build_rattle() {
     ./s5933-log --build >"$work/rattle" 2>&1 || cat "$work/rattle"
 }
 
-# compile OUTPUT WORDS...: a C program for this machine.
+# compile OUTPUT WORDS...: a C program.
 compile() {
     gcc -std=c11 -O2 "${warnings[@]}" -o "$@"
 }
 
-# compile_x86 OUTPUT WORDS...: a C program for x86-64, statically linked, so that the emulator runs it as it is.
-compile_x86() {
-    "$x86_cc" -std=c11 -O2 "${warnings[@]}" -static -Iinclude -o "$@"
+# compile_static OUTPUT WORDS...: a C program for the archive, statically linked.
+compile_static() {
+    gcc -std=c11 -O2 "${warnings[@]}" -static -Iinclude -o "$@"
 }
 
 # run_log FRAMES LOG [STATUS]: the log program, which is to end with the status, or 0; prints what is wrong.

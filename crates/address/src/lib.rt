@@ -1,4 +1,6 @@
 // The address registers.
+#![tactic(auto)]
+
 ghost use Rattle.std.specs.Prelude.{◌≡◌, if◌then◌else◌, nat_eq};
 ghost use Rattle.machine.specs.Words.{written};
 ghost use Rattle.machine.specs.Cycles.{address_kept, next_address};

@@ -149,9 +149,9 @@ are_numbers (p ∷ ps) = (leb 24 p.0 && ltb p.0 38) && are_numbers ps
 
 pub stand_numbers : {l mail pci addon : List ℕ} {n : ℕ → ℕ} (ps : List (ℕ × ℕ)) → are_numbers ps ≡ true → Stand l mail pci addon n → Stand (puts l ps) mail pci addon (buts ps n)
 stand_numbers [] h s = s
-stand_numbers (p ∷ ps) h s =
+stand_numbers {l = l} {mail = mail} {pci = pci} {addon = addon} {n = n} (p ∷ ps) h s =
     let here = and_left (leb 24 p.0 && ltb p.0 38) (are_numbers ps) h in
-    stand_numbers ps (and_right (leb 24 p.0 && ltb p.0 38) (are_numbers ps) h)
+    stand_numbers {l = set l p.0 p.1} {mail = mail} {pci = pci} {addon = addon} {n = but p.0 p.1 n} ps (and_right (leb 24 p.0 && ltb p.0 38) (are_numbers ps) h)
     (stand-number s p.0 p.1 (leb-true 24 p.0 (and_left (leb 24 p.0) (ltb p.0 38) here)) (ltb-true p.0 38 (and_right (leb 24 p.0) (ltb p.0 38) here)))
 
 -- ---- a right as a word

@@ -1,4 +1,6 @@
 // A controller as 38 words, one after the other: in an array, or in the memory of whoever keeps it. A bank has its numbers by value.
+#![tactic(auto)]
+
 ghost use Rattle.std.specs.Prelude.{◌≡◌, true, length, get_or};
 ghost use Rattle.controller.specs.Controller.{state_of};
 ghost use Rattle.bank.specs.Words.{one_if, bank_in, state_of_words, has_rights};
@@ -8,7 +10,7 @@ use fifo::{Fifo, WordFill};
 
 // The numbers of a controller, those of a lane by the side that feeds it: read cycles work on the lane from PCI, write cycles on the one
 // from the Add-On.
-#[derive(Drop)]
+#[derive(Clone, Copy)]
 pub struct Bank {
     pub marks: u32,
     pub intcsr: u32,

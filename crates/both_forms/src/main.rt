@@ -1,8 +1,9 @@
 // Runs the lines on standard input twice from reset and writes the two logs one after the other: first with the step by value
 // and lines by position, then with the step in place and lines by a reader.
+#![tactic(auto)]
+
 use controller::Controller;
 use frame::Framed;
-use libc::{STDIN_FILENO, STDOUT_FILENO};
 use logline::ENGLISH;
 use step::Stepped;
 
@@ -25,7 +26,7 @@ fn line(text: &[u8], before: usize, at: usize, is_by_reader: bool) -> &[u8] {
     lines::line_at(text, at)
 }
 
-fn write_log(text: &[u8], is_in_place: bool) {
+fn write_log<R: Print>(rt: &R, text: &[u8], is_in_place: bool) {
     let mut memory = [0u32; 4096];
     let mut out = [0u8; 41];
     let mut c = controller::reset();
@@ -42,15 +43,16 @@ fn write_log(text: &[u8], is_in_place: bool) {
         let a = t.answer;
         c = next;
         let n = logline::put_line(&mut out, 0, a, ENGLISH);
-        io::write_all(STDOUT_FILENO, &out[..n]);
+        let _ = rt.write_all(&out[..n]);
         before = at;
         at = lines::past_line(text, at);
     }
 }
 
-fn main() {
-    let mut text = io::large_buffer();
-    let n = io::read_full(STDIN_FILENO, &mut text);
-    write_log(&text[..n], false);
-    write_log(&text[..n], true);
+fn main(rt: HostRuntime) {
+    let mut text = [0u8; 65536];
+    let mut reader = rt.reader();
+    let n = streams::read_full(&mut reader, &mut text);
+    write_log(&rt, &text[..n], false);
+    write_log(&rt, &text[..n], true);
 }

@@ -1,4 +1,6 @@
 // The clears that a write to MCSR or to AGCSTS commands.
+#![tactic(auto)]
+
 ghost use Rattle.std.specs.Prelude.{◌≡◌};
 ghost use Rattle.machine.specs.Sides as sides;
 ghost use Rattle.machine.specs.Access.{access_of};

@@ -1,4 +1,6 @@
 // What the controller holds.
+#![tactic(auto)]
+
 ghost use Rattle.std.specs.Prelude.{◌≡◌};
 ghost use Rattle.machine.specs.State.{reset_lane, reset_state};
 ghost use Rattle.controller.specs.Controller.{lane_of, state_of};
@@ -6,11 +8,11 @@ ghost use Rattle.controller.specs.Controller.{lane_of, state_of};
 use fifo::Fifo;
 
 // A transfer count, in bytes.
-#[derive(Drop)]
+#[derive(Clone, Copy)]
 pub struct ByteCount(pub u32);
 
 // A FIFO, the address and count registers of the cycles that work on it, and whether these have the right of a burst.
-#[derive(Drop)]
+#[derive(Clone, Copy)]
 pub struct Lane {
     pub fifo: Fifo,
     pub address: u32,
@@ -20,7 +22,7 @@ pub struct Lane {
 
 // mail has the mailbox words by their offset / 4; marks has a one for each full byte.
 // Read cycles work on the lane from PCI, write cycles on the lane from the Add-On.
-#[derive(Drop)]
+#[derive(Clone, Copy)]
 pub struct Controller {
     pub mail: [u32; 8],
     pub marks: u32,

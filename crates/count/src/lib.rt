@@ -1,4 +1,6 @@
 // The count registers, and the bytes that a cycle moves.
+#![tactic(auto)]
+
 ghost use Rattle.std.specs.Prelude.{◌≡◌, cond, eqb, ltb};
 ghost use Rattle.machine.specs.Words.{written};
 ghost use Rattle.machine.specs.Cycles.{moved, low_enables, count_kept, count_left, runs_out};

@@ -1,22 +1,24 @@
 // A test of the count of cycles past its edge: the frames of standard input, counted on from two write cycles and one read cycle below
 // 2^32, and the line of what they come to.
-use libc::{STDIN_FILENO, STDOUT_FILENO};
+#![tactic(auto)]
+
 use tally::{Tally, Total};
 
-fn write_total(total: Total) {
-    match total {
+fn write_total<R: Print>(rt: &R, total: Total) {
+    let _ = match total {
         Total::Cycles(writes, reads) => {
             let line = tally::line(writes, reads);
-            io::write_all(STDOUT_FILENO, &line)
+            rt.write_all(&line)
         }
-        Total::UnknownSet => io::write_all(STDOUT_FILENO, b"unknown label set\n"),
+        Total::UnknownSet => rt.write_all(b"unknown label set\n"),
     };
 }
 
-fn main() {
+fn main(rt: HostRuntime) {
     let mut memory = [0u32; 4096];
     let mut bytes = [0u8; 4096];
-    let n = io::read_full(STDIN_FILENO, &mut bytes);
+    let mut reader = rt.reader();
+    let n = streams::read_full(&mut reader, &mut bytes);
     let s = tally::start();
     let reading = s.reading;
     let stream = s.stream;
@@ -28,5 +30,5 @@ fn main() {
     };
     let fed = tally::feed(t, &mut memory, 0, &bytes[..n]);
     let total = tally::finish(fed, &mut memory, 0);
-    write_total(total);
+    write_total(&rt, total);
 }

@@ -1,4 +1,6 @@
 // The C call for one step on a controller that stands as words in its caller's memory: what a driver calls for each access.
+#![tactic(auto)]
+
 ghost use Rattle.std.specs.Prelude.{◌≡◌, length};
 ghost use Rattle.driver.specs.Call.{form_of_words, words_of_answer, StepPromised};
 

@@ -1,4 +1,6 @@
 // Eight digits at a time: as bytes of one number, by sums and masks on all of them at once.
+#![tactic(auto)]
+
 ghost use Rattle.std.specs.Prelude.{◌≡◌, List, [], ◌∷◌, ℕ, ◌/◌, ◌%◌, ◌≤◌, ◌<◌, length};
 ghost use Rattle.hex_digits.specs.Hex.{all_digits, digit_of, digits};
 ghost use Rattle.eight.specs.Packed.{packed, Each, numbers_in, joined_from, number_or};

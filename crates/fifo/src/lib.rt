@@ -1,9 +1,11 @@
 // A FIFO of eight 32-bit words: a ring, whose words stand from place `head` on, counted modulo 8. Freed places are used again.
+#![tactic(auto)]
+
 ghost use Rattle.std.specs.Prelude.{◌≡◌, cond, [], suc, ◌+◌, ◌-◌, ◌%◌, eqb, leb, ltb};
 ghost use Rattle.fifo.specs.Held.{held};
 
 // A number of 32-bit words in a FIFO.
-#[derive(Drop)]
+#[derive(Clone, Copy)]
 pub struct WordFill(pub u32);
 
 const DEPTH: u32 = 8;
@@ -16,7 +18,7 @@ const ROOM_FOR_ONE: u32 = 7;
 
 const ROOM_FOR_FOUR: u32 = 4;
 
-#[derive(Drop)]
+#[derive(Clone, Copy)]
 pub struct Fifo {
     pub words: [u32; 8],
     pub head: u32,

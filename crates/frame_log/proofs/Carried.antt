@@ -6,7 +6,6 @@
 --     answers_few                     no more answers than bytes
 use Rattle.std.proofs.Common.{◌≡◌, ℕ, ◌+◌, ◌<◌, ◌≤◌, min, List, [], ◌∷◌, ◌++◌, length, take, drop, set, sym, ◌∙◌, append-nil, zero-le, add-one, arith, length-append, drop_of_length-le, length-take-le, take_all, take-suc-set, eq-eqb, ne_eqb}
 use native.Mathlib.Decide.{dec_le, ℕ_discrete}
-use lib.ListN.{length-map}
 use lib.Seq.{take-append-le}
 use mir.Val.{Val}
 use denote.Laws.{Is}
@@ -21,7 +20,7 @@ use Rattle.frame_log.specs.Log.{line_outcome, PieceOutcome, answering, piece_out
 
 -- `bytes` is field 1
 pub bytes_length : (s : Stream) {vs : List Val} → Is (row the_type) s vs → length s.bytes ≡ 14
-bytes_length s {vs} g = sym (length-map s.bytes (λ v. v)) ∙ (owed the_type the_laws s vs g).1.0.1.0.1
+bytes_length s {vs} g = (owed the_type the_laws s vs g).1.0.1.0.1
 
 module _ (bytes : List ℕ) (whole : length bytes ≡ 14) where
   clip-by : (len : ℕ) → Dec (len ≤ 14) → take (min len 14) bytes ≡ take len bytes

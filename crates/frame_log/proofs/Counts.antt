@@ -20,7 +20,7 @@ use Rattle.frame_log.specs.declared.Turn.{Turn}
 use Rattle.frame_log.specs.Log.{frames_in, line_outcome, piece_outcome}
 use Rattle.frame_log.specs.Promises.{joined, framed, steps_in}
 use Rattle.frame_log.specs.Results.{TurnPromised}
-use Rattle.frame_log.specs.Counts.{steps_of, events_of, is_done_cycle, cycles_of, piece_run, CountOutcome, count_after, count_of, end_count_of, pieces_count, CountsJoined}
+use Rattle.frame_log.specs.Counts.{steps_of, events_of, is_done_cycle, cycles_of, piece_run, count_after, count_of, end_count_of, pieces_count, CountsJoined}
 use Rattle.frame_log.proofs.Carried.{fed-lf, fed-other}
 use Rattle.frame_log.proofs.Pieces.{frame_clip, same_more}
 use Rattle.frame_log.proofs.Turns.{frames_lf, frames_other}

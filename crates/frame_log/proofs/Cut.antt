@@ -1,5 +1,5 @@
 -- Logs with their labels cut off.
-use Rattle.std.proofs.Common.{◌≡◌, ℕ, ◌+◌, Bool, true, false, cond, not, ◌&&◌, ◌||◌, eqb, List, [], ◌∷◌, ◌++◌, length, sym, refl, ap, ◌∙◌, append_assoc, arith, length-append, ne_eqb}
+use Rattle.std.proofs.Common.{◌≡◌, ℕ, Bool, true, false, cond, not, ◌&&◌, ◌||◌, eqb, List, [], ◌∷◌, ◌++◌, length, sym, refl, ap, ◌∙◌, append_assoc, arith, length-append, ne_eqb}
 use Rattle.machine.specs.State.{State, reset_state}
 use Rattle.machine.specs.Window.{zero_words}
 use Rattle.machine.specs.declared.Answer.{Answer}

@@ -1,7 +1,7 @@
 -- A text in pieces tells what the whole text tells, wherever the pieces end.
 --     told_same      of a line that has begun the first 14 bytes decide
 --     piece_told     a text that begins with a piece
-use Rattle.std.proofs.Common.{◌≡◌, ℕ, zero, suc, ◌+◌, ◌<◌, ◌≤◌, List, [], ◌∷◌, ◌++◌, length, take, sym, refl, ap, ◌∙◌, append_assoc, append-nil, arith, length-append, length-take, length-take-le, take_all, take-take, ne_eqb}
+use Rattle.std.proofs.Common.{◌≡◌, ℕ, zero, suc, ◌<◌, ◌≤◌, List, [], ◌∷◌, ◌++◌, length, take, sym, refl, ap, ◌∙◌, append_assoc, append-nil, arith, length-append, length-take, length-take-le, take_all, take-take, ne_eqb}
 use native.Mathlib.Decide.{dec_le, dec_lt, ℕ_discrete}
 use lib.Seq.{take-append-le}
 use Rattle.machine.specs.State.{State}

@@ -1,7 +1,7 @@
 -- Lines told one after the other, and the log of their answers.
 --     log_append, log_length    the log of answers joined; 41 bytes an answer at most
 --     told_length               one answer for each line
-use Rattle.std.proofs.Common.{◌≡◌, ℕ, ◌+◌, ◌*◌, ◌≤◌, List, [], ◌∷◌, ◌++◌, length, sym, refl, ap, ◌∙◌, append_assoc, append-nil, zero-le, arith, length-append}
+use Rattle.std.proofs.Common.{◌≡◌, ℕ, ◌*◌, ◌≤◌, List, [], ◌∷◌, ◌++◌, length, sym, refl, ap, ◌∙◌, append_assoc, append-nil, zero-le, arith, length-append}
 use Rattle.machine.specs.State.{State}
 use Rattle.machine.specs.declared.Answer.{Answer}
 use Rattle.logline.specs.LogLine.{log_line, line_room}

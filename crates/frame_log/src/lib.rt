@@ -1,4 +1,6 @@
 // The log of a text, and of a text that comes in pieces.
+#![tactic(auto)]
+
 ghost use Rattle.std.specs.Prelude.{◌≡◌, ◌+◌, ◌*◌, ◌%◌, ◌^◌, ◌<◌, ◌≤◌, min, true, [], length, take, if◌then◌else◌};
 ghost use Rattle.machine.specs.State.{State, reset_state};
 ghost use Rattle.machine.specs.Step.{not_aframe};
@@ -64,7 +66,7 @@ pub fn answer_line(c: Controller, memory: &mut [u32], start: u32, line: &[u8]) -
 }
 
 // How many bytes of log stand at the output's start, or that it has too little room.
-#[derive(Drop)]
+#[derive(Clone, Copy)]
 pub enum Logged {
     Written(usize),
     NoRoom,
@@ -74,21 +76,21 @@ pub enum Logged {
 
 // What is carried from piece to piece: the controller, and of the line that has not ended the first bytes, at most 14. They are
 // enough, since a line of 14 bytes is no frame.
-#[derive(Drop)]
+#[derive(Clone, Copy)]
 pub struct Stream {
     pub controller: Controller,
     pub bytes: [u8; 14],
     pub len: usize,
 }
 
-#[derive(Drop)]
+#[derive(Clone, Copy)]
 pub struct Streamed {
     pub stream: Stream,
     pub log: Logged,
 }
 
 // A stream after a piece, and the place past the log.
-#[derive(Drop)]
+#[derive(Clone, Copy)]
 struct Streaming {
     stream: Stream,
     next: usize,
@@ -121,7 +123,7 @@ fn kept(len: usize) -> usize
 }
 
 // What is taken of a piece in a turn: a line that has ended, and what it says; or a byte more of one that has not, which is carried.
-#[derive(Drop)]
+#[derive(Clone, Copy)]
 struct Turn {
     next: usize,
     len: usize,
@@ -268,7 +270,7 @@ pub fn feed(
 
 // ---- a text
 
-#[derive(Drop)]
+#[derive(Clone, Copy)]
 pub struct Ran {
     pub controller: Controller,
     pub log: Logged,
@@ -338,7 +340,7 @@ pub fn finish(s: Stream, memory: &mut [u32], start: u32, out: &mut [u8], set: u3
 // ---- the cycles of a text, counted
 
 // A stream after a piece, and how many write cycles and read cycles are done, modulo 2^32.
-#[derive(Drop)]
+#[derive(Clone, Copy)]
 pub struct Counted {
     pub stream: Stream,
     pub writes: u32,

@@ -1,4 +1,6 @@
 // Hexadecimal digits, upper case.
+#![tactic(auto)]
+
 ghost use Rattle.std.specs.Prelude.{◌≡◌};
 ghost use Rattle.hex_digits.specs.Hex.{digit_number};
 

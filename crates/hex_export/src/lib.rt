@@ -1,4 +1,6 @@
 // A window, a lent run of words with a start address, is exported as a HEX text, a word's eight digits at a time.
+#![tactic(auto)]
+
 ghost use Rattle.std.specs.Prelude.{◌≡◌, cond, [], ◌∷◌, ◌++◌, ◌+◌, ◌-◌, ◌*◌, ◌/◌, ◌%◌, ◌≤◌, ◌<◌, min, length, take, drop, eqb};
 ghost use Rattle.hex_digits.specs.Hex.{digits};
 ghost use Rattle.eight.specs.Written.{bytes_of};
@@ -13,7 +15,7 @@ use machine::codes;
 const SEGMENT: u64 = 65536;
 
 // How many bytes the text has, or the code that refuses it.
-#[derive(Drop)]
+#[derive(Clone, Copy)]
 pub enum Exported {
     Written(usize),
     Refused(u32),
@@ -106,7 +108,7 @@ fn put_word(out: &mut [u8], at: usize, w: u32) -> usize
 }
 
 // The place past written words, and the sum of their bytes.
-#[derive(Drop)]
+#[derive(Clone, Copy)]
 struct Put {
     at: usize,
     sum: u32,

@@ -1,5 +1,7 @@
 // A HEX text is loaded into a window, a lent run of words with a start address. It is looked at whole before a byte is stored. Bytes
 // are read up to four at a time, by the eight digits that end with theirs.
+#![tactic(auto)]
+
 ghost use Rattle.std.specs.Prelude.{◌≡◌, true, cond, List, [], ◌∷◌, ◌+◌, ◌-◌, ◌*◌, ◌/◌, ◌%◌, ◌^◌, ◌≤◌, ◌<◌, length, take, drop};
 ghost use Rattle.std.proofs.lemmas.List.Edits.{sets};
 ghost use Rattle.hex_digits.specs.Hex.{all_digits};
@@ -172,7 +174,7 @@ fn behind_end(more: bool) -> u32
 }
 
 // The first code that applies to a text, 0 if none does, and the place in the text that it is told of.
-#[derive(Drop)]
+#[derive(Clone, Copy)]
 struct Found {
     code: u32,
     at: usize,

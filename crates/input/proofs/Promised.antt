@@ -1,10 +1,11 @@
 -- What `feed` and `finish` promise, by how far the reading has come.
 use Prim.Native.Nat.{ℕ, ◌+◌, ◌≤◌, zero-le}
-use mathlib.Core.Path.{◌≡◌, refl, sym, ◌∙◌}
-use mathlib.Core.List.{List, []}
+use mathlib.Core.Path.{◌≡◌, refl, sym, ap, ◌∙◌}
+use mathlib.Core.List.{List}
 use mathlib.Core.Bool.{Bool, true, false}
 use borrow.Author.Tests.{le-ltb}
-use lib.ListN.{length}
+use native.Mathlib.Omega.{arith}
+use lib.ListN.{length, length-drop}
 use Rattle.machine.specs.State.{State}
 use Rattle.controller.specs.Controller.{state_of}
 use Rattle.lines.specs.Lines.{lines}
@@ -19,8 +20,8 @@ use Rattle.input.specs.declared.Reading.{Reading}
 use Rattle.input.specs.declared.Reading.TheVariants.{FirstLine, Frames, Over}
 use Rattle.input.specs.declared.SetLine.{SetLine}
 use Rattle.input.specs.declared.Input.{Input}
-use Rattle.input.specs.Input.{has_set, passing, refusal_after, fed_past, fed_input, ended_first, ended_input}
-use Rattle.input.specs.Results.{InputRun, with_room, as_it_is, lines_left, InputFeedUnique, InputFinishUnique}
+use Rattle.input.specs.Input.{has_set, Passing, passing, refusal_after, fed_past, fed_input, ended_first, ended_input}
+use Rattle.input.specs.Results.{InputRun, with_room, as_it_is, lines_left, PassedUnique, InputFeedUnique, InputFinishUnique}
 
 module _ (i : Input) (start : ℕ) (memory out : List ℕ) where
   abbrev st : State
@@ -116,6 +117,15 @@ refusal_after_fits (Frames set) = zero-le
 refusal_after_fits Over = zero-le
 
 -- ---- two results are the same
+
+pub passed_unique : PassedUnique
+passed_unique reading piece r q p o =
+    let same = sym p.passes ∙ o.passes in
+    let left = ap (λ (v : Passing). length v.rest) same in
+    let within = p.within in
+    let within' = o.within in
+    let next : r.next ≡ q.next = omega (arith, left, length-drop r.next piece, length-drop q.next piece) in
+    λ i. record { reading = (same i).reading; next = next i }
 
 pub input_feed_unique : InputFeedUnique
 input_feed_unique i start memory piece out r q memory' memory'' out' out'' p o = (p.fed ∙ sym o.fed, λ e. p.refused e ∙ sym (o.refused e))

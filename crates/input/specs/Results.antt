@@ -19,6 +19,10 @@ pub record PassedBy (reading : Reading) (piece : List ℕ) (r : Passed) : Type 0
   pub within : r.next ≤ length piece
   pub passes : passing reading piece ≡ record { reading = r.reading; rest = drop r.next piece }
 
+-- `passed_unique`: two results that meet this are equal
+abbrev pub PassedUnique : Type 0
+PassedUnique = (reading : Reading) (piece : List ℕ) (r q : Passed) → PassedBy reading piece r → PassedBy reading piece q → r ≡ q
+
 -- reading, state, memory, the line that has not ended and the output afterwards, and what is answered
 pub record InputRun : Type 0 where
   pub reading : Reading

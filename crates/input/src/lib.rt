@@ -1,4 +1,6 @@
 // What the log program reads: a first line with the number of a label set, then frames; in pieces that end anywhere.
+#![tactic(auto)]
+
 ghost use Rattle.std.specs.Prelude.{◌≡◌, [], ◌≤◌, length};
 ghost use Rattle.machine.specs.State.{reset_state};
 ghost use Rattle.controller.specs.Controller.{state_of};
@@ -15,7 +17,7 @@ use frame_log::{Logged, Stream};
 use logline::LINE_ROOM;
 
 // What has come of the set line: nothing, a digit, both of them.
-#[derive(Drop)]
+#[derive(Clone, Copy)]
 pub enum SetLine {
     Nothing,
     Digit(u8),
@@ -23,7 +25,7 @@ pub enum SetLine {
 }
 
 // How far the reading has come: in the first line; frames, under a set; over, since the set is unknown.
-#[derive(Drop)]
+#[derive(Clone, Copy)]
 pub enum Reading {
     FirstLine(SetLine),
     Frames(u32),
@@ -31,27 +33,27 @@ pub enum Reading {
 }
 
 // The set that a first line chooses.
-#[derive(Drop)]
+#[derive(Clone, Copy)]
 pub enum Chosen {
     Set(u32),
     Unknown,
 }
 
-#[derive(Drop)]
+#[derive(Clone, Copy)]
 pub struct Input {
     pub reading: Reading,
     pub stream: Stream,
 }
 
 // An input after a piece, and the log of the piece.
-#[derive(Drop)]
+#[derive(Clone, Copy)]
 pub struct FeedResult {
     pub input: Input,
     pub log: Logged,
 }
 
 // An input at its end, and the log of its last line.
-#[derive(Drop)]
+#[derive(Clone, Copy)]
 pub struct FinishResult {
     pub reading: Reading,
     pub controller: Controller,
@@ -113,7 +115,7 @@ fn byte_heard(line: SetLine, b: u8) -> Reading
 }
 
 // How far a reading comes, and the place past the bytes that it took for the set line.
-#[derive(Drop)]
+#[derive(Clone, Copy)]
 pub struct Passed {
     pub reading: Reading,
     pub next: usize,

@@ -1,4 +1,6 @@
 // The interrupt registers, INTCSR of PCI and AINT of the Add-On: what they keep, the events, the interrupt lines.
+#![tactic(auto)]
+
 ghost use Rattle.std.specs.Prelude.{◌≡◌, cond, eqb};
 ghost use Rattle.machine.specs.Words.{raised};
 ghost use Rattle.machine.specs.Cycles.{runs_out};

@@ -2,7 +2,6 @@
 use Prim.Native.Nat.{ℕ, ◌^◌}
 use mathlib.Core.Path.{◌≡◌, refl}
 use mathlib.Core.List.{List, [], ◌∷◌}
-use native.Mathlib.Omega.{arith}
 use Rattle.machine.specs.State.{State}
 use Rattle.machine.specs.Step.{step_of}
 use Rattle.machine.specs.declared.Answer.{Answer}

@@ -1,6 +1,6 @@
 -- A step leaves a state in form in form.
 use Prim.Native.Nat.{ℕ, zero, suc, ◌*◌, ◌/◌, ◌%◌, ◌^◌, ◌≤◌, ◌<◌}
-use mathlib.Core.Path.{◌≡◌, refl, ap, ◌∙◌}
+use mathlib.Core.Path.{◌≡◌, refl, ap}
 use mathlib.Core.Bool.{Bool, true, false, cond, not, ◌&&◌}
 use mathlib.Core.List.{List, [], ◌∷◌}
 use native.Mathlib.Omega.{arith}
@@ -8,8 +8,8 @@ use lib.Dec.{eqb, ltb, eqb-suc-zero}
 use lib.Bits.{bit_and, and_high, and_le_r}
 use lib.ListN.{length, drop, length-append, length-drop}
 use borrow.Author.Tests.{ltb-false, le-ltb, eqb-true, eq-eqb, not-false}
-use Rattle.machine.specs.Words.{bit, any_of, only, raised, cleared, merged, written}
-use Rattle.machine.specs.Sides.{Side, pci, addon, other, same_side, side_of, host, party_of, same_party}
+use Rattle.machine.specs.Words.{any_of, only, raised, cleared, merged, written}
+use Rattle.machine.specs.Sides.{Side, pci, addon, same_side, side_of, host, party_of, same_party}
 use Rattle.machine.specs.State.{State, Lane, lane, held, with_right, reset_state}
 use Rattle.machine.specs.Access.{Access, access_of, Kind, reading, writing, cycle, chip_reset, unknown, is_reset, cycles, writes}
 use Rattle.machine.specs.Offsets.{fifo_port, address_at, count_at, interrupts_at, control_at}

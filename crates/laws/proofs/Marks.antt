@@ -1,15 +1,15 @@
 -- The marks one by one, and the mailbox words one by one, after a done step.
 use Prim.Native.Nat.{ℕ, ◌-◌, ◌*◌, ◌/◌, ◌%◌, ◌^◌, ◌<◌, ◌≤◌}
 use mathlib.Core.Path.{◌≡◌, refl, sym, ap, ◌∙◌}
-use mathlib.Core.Bool.{Bool, true, false, cond, not, ◌&&◌, ◌||◌, true≢false, and-false, and-true, or-false}
+use mathlib.Core.Bool.{Bool, true, false, cond, not, ◌&&◌, true≢false}
 use native.Mathlib.Omega.{arith}
 use native.Mathlib.Nat.{mul-le-mul, pow-le-pow_right}
 use lib.Dec.{eqb, leb, ltb}
 use lib.Bits.{bit_and, bit_xor}
 use borrow.Author.Tests.{eqb-true, eqb-false, leb-true, le-leb, lt-ltb, le-ltb, ltb-true}
 use Rattle.machine.specs.Words.{bit}
-use Rattle.machine.specs.Offsets.{is_mailbox, reader}
-use Rattle.machine.specs.Access.{Access, is_read_by}
+use Rattle.machine.specs.Offsets.{is_mailbox}
+use Rattle.machine.specs.Access.{Access}
 use Rattle.machine.specs.Commands.{clears_marks}
 use Rattle.machine.specs.Mailboxes.{marks_at, fills, takes, changes, marks_after}
 use Rattle.laws.proofs.Tests.{and_left, and_right, cond_part}

@@ -1,4 +1,6 @@
 // The log line of an answer: its numbers in upper-case hexadecimal digits, a space, the label of the code in a language, LF.
+#![tactic(auto)]
+
 ghost use Rattle.std.specs.Prelude.{◌≡◌, ◌+◌, ◌≤◌, cond, ◌++◌, length};
 ghost use Rattle.machine.specs.Codes.{unknown_label_set};
 ghost use Rattle.hex_digits.specs.Hex.{bytes, digits};

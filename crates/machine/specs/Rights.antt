@@ -1,7 +1,7 @@
 -- Ask 5: what ends the right of a burst.
 use Rattle.std.specs.Prelude.{ℕ, Bool, not, ◌&&◌, List, [], ◌∷◌, eqb}
 use Rattle.machine.specs.Words.{bit, any_of}
-use Rattle.machine.specs.Sides.{Side, pci, addon}
+use Rattle.machine.specs.Sides.{Side}
 use Rattle.machine.specs.State.{State, Lane, with_right, with_lanes}
 use Rattle.machine.specs.Fifos.{amount}
 use Rattle.machine.specs.Mcsr.{four_bit, enable_bit}

@@ -1,5 +1,6 @@
 // A step and its answer, as numbers, and the numbers of kinds, codes and offsets by name. The definitions in specs/ and the code that meets them
 // share the two structs; the named numbers stand in specs/ once more.
+#![tactic(auto)]
 
 pub mod codes;
 pub mod kinds;
@@ -11,7 +12,7 @@ pub const WORD_BYTES: u32 = 4;
 pub const ALL_ENABLES: u32 = 15;
 
 // A step, in four numbers; `value` is its data. Any four make a step.
-#[derive(Drop)]
+#[derive(Clone, Copy)]
 pub struct Step {
     pub kind: u32,
     pub offset: u32,
@@ -21,7 +22,7 @@ pub struct Step {
 
 // An answer, in four numbers, the levels of both interrupt lines once the step is over, and the marks that the step changed, as bits of
 // offset 34, which the log does not show; `value` is its data.
-#[derive(Drop)]
+#[derive(Clone, Copy)]
 pub struct Answer {
     pub code: u32,
     pub address: u32,

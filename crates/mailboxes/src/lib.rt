@@ -1,4 +1,6 @@
 // The mailboxes: their words, and for each byte a mark that says whether it is full.
+#![tactic(auto)]
+
 ghost use Rattle.std.specs.Prelude.{◌≡◌, true, get_or};
 ghost use Rattle.machine.specs.Access.{access_of, kind_of, is_read_by, is_write_by};
 ghost use Rattle.machine.specs.Offsets.{is_mailbox, mailbox, writer, reader};

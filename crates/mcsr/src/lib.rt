@@ -1,4 +1,6 @@
 // The control registers, MCSR of PCI and AGCSTS of the Add-On: what MCSR keeps, and the status that both show.
+#![tactic(auto)]
+
 ghost use Rattle.std.specs.Prelude.{◌≡◌, cond, List, ℕ, length};
 ghost use Rattle.machine.specs.Sides as sides;
 ghost use Rattle.machine.specs.Access.{access_of};

@@ -1,4 +1,6 @@
 // The step that works on one controller where it stands. Both contracts are the by-value step's own, `StepPromised`; `in_place_equal` shows the forms equal.
+#![tactic(auto)]
+
 ghost use Rattle.step.specs.Unique.{StepPromised};
 ghost use Rattle.place.specs.InPlace.{stepped_to};
 

@@ -5,7 +5,7 @@ use mathlib.Core.Bool.{Bool, true, false, cond, ◌&&◌}
 use mathlib.Core.List.{List, [], ◌∷◌, ◌++◌}
 use native.Mathlib.Nat.{mod-lt, mod-le, pow-le-pow_right}
 use native.Mathlib.Omega.{arith}
-use lib.Dec.{eqb, ltb}
+use lib.Dec.{eqb}
 use lib.Bits.{bit_and, bit_or, bit_xor, or_lt, xor_lt, and_le_l, and_le_r}
 use lib.ListN.{length, get_or, set, drop}
 use borrow.Author.Tests.{eqb-true}

@@ -12,7 +12,7 @@ use Rattle.machine.specs.Sides.{pci, addon}
 use Rattle.machine.specs.State.{State}
 use Rattle.machine.specs.Access.{access_of, kind_of}
 use Rattle.machine.specs.Fifos.{front}
-use Rattle.machine.specs.Window.{place_of, inside}
+use Rattle.machine.specs.Window.{place_of}
 use Rattle.machine.specs.Cycles.{low_enables, cycle_word, stored}
 use Rattle.machine.specs.Code.{code_of}
 use Rattle.machine.specs.Step.{register, read_value, done_reply, reply_of, answered, memory_after, respond, step_of}

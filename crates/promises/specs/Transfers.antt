@@ -41,7 +41,7 @@ abbrev pub up_from : ℕ → ℕ → List ℕ
 up_from zero address = []
 up_from (suc n) address = address ∷ up_from n (further 1 address)
 
--- `up_from`: so the j-th of them, from 0 on, is the first and 4 j more, modulo 2^32
+-- `up_from_lem`: so the j-th of them, from 0 on, is the first and 4 j more, modulo 2^32
 abbrev pub UpFrom : Type 0
 UpFrom = (n address j : ℕ) → address < 2 ^ 32 → j < n → get_or (up_from n address) j 0 ≡ (address + 4 * j) % 2 ^ 32
 

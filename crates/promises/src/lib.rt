@@ -1,1 +1,2 @@
 // What is promised of the machine: the statements are in specs/, their proofs in proofs/. There is no code here.
+#![tactic(auto)]

@@ -4,7 +4,7 @@ use Prim.Native.Nat.{ℕ, ◌<◌, ◌^◌}
 use mathlib.Core.List.{List, [], ◌∷◌}
 use lib.ListN.{length}
 use seplogic.Ra.Ura.{Ura}
-use mir.Syntax.{named, w64}
+use mir.Syntax.{named, w8, w64}
 use mir.Val.{Val, vint}
 use base.Logic.{SProp, ent, sep, emp, ex, id⊢}
 use base.Fml.{Lft, Share, Fml, ftrue, flft}
@@ -13,7 +13,7 @@ use contract.Monad.{fact}
 use types.Kit.{Goal, Seq, Item, Soaks, ‵, raw, ◌⊛◌, given, some, later, ◌$◌, ◌∵◌, !, qed, move, drop, use1, use2, split, join, learn, pick, fsplit, fjoin, frame, await, done}
 use denote.RattleType.{RattleType, Denots, Valss, owns}
 use denote.Laws.{Is}
-use denote.Plain.{uint_Makes}
+use denote.Plain.{uint_Makes, uint_row_laws}
 use denote.Builtin.{u8, usize}
 use denote.Ref.{Bor, NamedLft}
 use denote.Signature.{named_lft}
@@ -82,7 +82,7 @@ module _ {M : Type 1} {𝓤 : Ura M} (𝓛 : Logic 𝓤) (κ : Lft) (q : Share) 
     pub again : (s : Bor (List ℕ)) (n : ℕ) → ent 𝓤 (Has (Text κ ∷ usize ∷ []) (s, (n, tt)) (v_pair s n)) (sep 𝓤 (Asks (Text κ ∷ usize ∷ []) (s, (n, tt)) (v_pair s n)) (sem 𝓛 ((Text κ).own_val s (v_text s ∷ []))))
     again s n =
         qed 𝓛 ((‵ (flft κ q) ⊛ ‵ ftrue) ∷ ‵ (owns (Text κ ∷ usize ∷ []) (s, (n, tt)) (v_pair s n)) ∷ []) ∵
-        move ! (1 ∷ []) $ fsplit ! $ use1 𝓛 (‵ ((Text κ).own_val s (v_text s ∷ [])) ⊛ ‵ ((Text κ).own_val s (v_text s ∷ []))) ((shr_slice_copy 𝓛 (named 0) κ u8).twice s (v_text s ∷ [])) $ split ! $
+        move ! (1 ∷ []) $ fsplit ! $ use1 𝓛 (‵ ((Text κ).own_val s (v_text s ∷ [])) ⊛ ‵ ((Text κ).own_val s (v_text s ∷ []))) ((shr_slice_copy 𝓛 (named 0) κ u8 (uint_row_laws w8)).twice s (v_text s ∷ [])) $ split ! $
         move ! (0 ∷ 2 ∷ []) $ fjoin ! $ move ! (2 ∷ 0 ∷ []) $ use2 𝓛 (raw (Asks (Text κ ∷ usize ∷ []) (s, (n, tt)) (v_pair s n))) (asked (Text κ ∷ usize ∷ []) (s, (n, tt)) (v_pair s n)) $ frame ! $ done !
 
     pub twice : (d : LineReader) → ent 𝓤 (sem 𝓛 (Held κ d)) (sep 𝓤 (sem 𝓛 (Held κ d)) (sem 𝓛 (Held κ d)))

@@ -1,8 +1,10 @@
 // A line reader: a text and a position in it. Its lines are parts of the text, not copies. The functions of `lines`, on a text and a position, do the work.
+#![tactic(auto)]
+
 ghost use Rattle.std.specs.Prelude.{◌≡◌};
 ghost use Rattle.lines.specs.Lines.{past_line, Part};
 
-#[derive(Drop)]
+#[derive(Clone, Copy)]
 pub struct LineReader<'a> {
     pub text: &'a [u8],
     pub at: usize,

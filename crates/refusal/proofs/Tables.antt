@@ -1,12 +1,11 @@
 -- What the tests of the code need of the machine's.
-use Prim.Native.Nat.{ℕ, zero, suc, ◌≤◌, ◌<◌}
+use Prim.Native.Nat.{ℕ}
 use mathlib.Core.Path.{◌≡◌, refl}
 use mathlib.Core.Bool.{Bool, true, false, cond, not, and-false, false≢true, true≢false}
-use native.Mathlib.Omega.{arith}
 use borrow.Author.Tests.{ne_eqb}
 use Rattle.machine.specs.Sides.{pci, addon, same_side, host, card, side_of}
 use Rattle.machine.specs.State.{State}
-use Rattle.machine.specs.Access.{Access, Kind, reading, writing, cycle, chip_reset, unknown, kind_of, is_access}
+use Rattle.machine.specs.Access.{Access, Kind, reading, writing, cycle, chip_reset, unknown, is_access}
 use Rattle.machine.specs.Code.{is_unknown_offset, has_bad_enables, is_part_fifo_access, is_read_only_write, is_full_or_empty, is_transfer_off, is_count_zero, is_abort_standing, is_not_ready, is_no_memory, cycle_tests, first_of}
 use Rattle.refusal.specs.Codes.{access_code}
 

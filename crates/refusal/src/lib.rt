@@ -1,4 +1,6 @@
 // The code of a step, in parts: of the form, of a read or a write, of a cycle. Nothing is changed here.
+#![tactic(auto)]
+
 ghost use Rattle.std.specs.Prelude.{◌≡◌, not, ◌&&◌, ◌||◌, List, ℕ, ◌%◌, eqb, ltb};
 ghost use Rattle.machine.specs.Sides as sides;
 ghost use Rattle.machine.specs.State.{lane};

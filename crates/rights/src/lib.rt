@@ -1,4 +1,6 @@
 // What ends the right of a burst, in each direction.
+#![tactic(auto)]
+
 ghost use Rattle.std.specs.Prelude.{◌≡◌, List, ℕ};
 ghost use Rattle.machine.specs.Sides as sides;
 ghost use Rattle.machine.specs.State.{lane};

@@ -3,79 +3,83 @@
 // length of a HEX text in eight digits; after `L` and `B` that text; frames. After `B` the memory is exported in place of the log. Which set a first line chooses, and what a text
 // and a piece of frames do, is proved of `input`, `hex_load`, `hex_export` and `log`; that they come in this order is read here and
 // tested.
+#![tactic(auto)]
+
 ghost use Rattle.std.specs.Prelude.{◌≤◌, ◌<◌, ◌≡◌, true, length};
 ghost use Rattle.frame_log.specs.Results.{is_within};
 
+use frame_log::Logged;
 use hex_export::Exported;
 use input::Chosen;
-use libc::{STDERR_FILENO, STDIN_FILENO, STDOUT_FILENO};
-use frame_log::Logged;
 use machine::codes;
-
-// Where the program says how it ended, since it has no exit status.
-const STATUS_FILENO: i32 = 3;
+use std::io;
+use std::io::Read;
+use std::process::ExitCode;
+use std::rt::Files;
+use streams::Sent;
 
 const INPUT_MOST: usize = 1048576;
 
 // How many bytes of frames are answered at a time.
 const PIECE: usize = 16384;
 
-// All was done; a read or a write failed; the input is not as it has to be; the label set is unknown; the load was refused.
-#[derive(Drop)]
+// All was done; a read or a write failed; the input is not as it has to be; the label set is unknown; the load was refused; nobody reads
+// the output any more.
+#[derive(Clone, Copy)]
 enum Ended {
     Done,
     Failed,
     Misused,
     UnknownSet,
     Refused,
+    Unread,
 }
 
 // ---- writing
 
-// Writes the first n bytes, and answers whether it could.
-fn write_first(out: &[u8], n: usize) -> bool
+// Writes the first n bytes, and answers how that went.
+fn write_first<R: Print + Eprint>(rt: &R, out: &[u8], n: usize) -> Sent
     requires { n ≤ length out.now }
 {
-    let is_written = io::write_all(STDOUT_FILENO, &out[..n]);
-    if is_written {
-        return true;
-    }
-    os::fail(b"s5933_hex: write");
-    false
+    streams::written(rt, "s5933_hex: write", rt.write_all(&out[..n]))
 }
 
-fn after_write(is_written: bool, on: Ended) -> Ended {
-    if is_written { on } else { Ended::Failed }
+fn after_write(sent: Sent, on: Ended) -> Ended {
+    match sent {
+        Sent::Whole => on,
+        Sent::Unread => Ended::Unread,
+        Sent::Failed => Ended::Failed,
+    }
 }
 
 // Writes the log that stands at the output's start, if it is asked for.
-fn write_log(log: Logged, out: &[u8], is_shown: bool) -> bool
+fn write_log<R: Print + Eprint>(rt: &R, log: Logged, out: &[u8], is_shown: bool) -> Sent
     requires { is_within log out.now ≡ true }
 {
     match log {
         Logged::Written(n) => {
             if is_shown {
-                return write_first(out, n);
+                return write_first(rt, out, n);
             }
-            true
+            Sent::Whole
         }
-        Logged::NoRoom => false,
+        Logged::NoRoom => Sent::Failed,
     }
 }
 
 // Writes the line that refuses an unknown set; below, a HEX text.
-fn refuse_set(out: &mut [u8]) -> Ended {
+fn refuse_set<R: Print + Eprint>(rt: &R, out: &mut [u8]) -> Ended {
     let n = logline::put_unknown_set(out);
-    after_write(write_first(out, n), Ended::UnknownSet)
+    after_write(write_first(rt, out, n), Ended::UnknownSet)
 }
 
-fn refuse(out: &mut [u8], code: u32, set: u32) -> Ended {
+fn refuse<R: Print + Eprint>(rt: &R, out: &mut [u8], code: u32, set: u32) -> Ended {
     let n = logline::put_refusal(out, code, set);
-    after_write(write_first(out, n), Ended::Refused)
+    after_write(write_first(rt, out, n), Ended::Refused)
 }
 
-fn misused(message: &[u8]) -> Ended {
-    io::write_all(STDERR_FILENO, message);
+fn misused<R: Eprint>(rt: &R, message: &str) -> Ended {
+    let _ = rt.eprintln(format_args!("s5933_hex: {message}"));
     Ended::Misused
 }
 
@@ -92,8 +96,15 @@ fn piece_end(at: usize, len: usize) -> usize
     len
 }
 
-// Answers frames from reset on, piece by piece, and whether their log could be written, if it is asked for.
-fn answer(memory: &mut [u32], frames: &[u8], out: &mut [u8], set: u32, is_shown: bool) -> bool {
+// Answers frames from reset on, piece by piece, and how their log could be written, if it is asked for.
+fn answer<R: Print + Eprint>(
+    rt: &R,
+    memory: &mut [u32],
+    frames: &[u8],
+    out: &mut [u8],
+    set: u32,
+    is_shown: bool,
+) -> Sent {
     let mut s = frame_log::start();
     let mut at = 0;
     while at < frames.len() {
@@ -103,39 +114,49 @@ fn answer(memory: &mut [u32], frames: &[u8], out: &mut [u8], set: u32, is_shown:
         let log = r.log;
         s = stream;
         at = end;
-        if !write_log(log, out, is_shown) {
-            return false;
+        match write_log(rt, log, out, is_shown) {
+            Sent::Whole => {}
+            Sent::Unread => return Sent::Unread,
+            Sent::Failed => return Sent::Failed,
         }
     }
     let r = frame_log::finish(s, memory, 0, out, set);
     let log = r.log;
-    write_log(log, out, is_shown)
+    write_log(rt, log, out, is_shown)
 }
 
 // ---- the two modes
 
-fn export(memory: &mut [u32], frames: &[u8], out: &mut [u8], set: u32) -> Ended {
-    if !answer(memory, frames, out, set, false) {
-        return Ended::Failed;
+fn export<R: Print + Eprint>(
+    rt: &R,
+    memory: &mut [u32],
+    frames: &[u8],
+    out: &mut [u8],
+    set: u32,
+) -> Ended {
+    match answer(rt, memory, frames, out, set, false) {
+        Sent::Whole => {}
+        Sent::Unread => return Ended::Unread,
+        Sent::Failed => return Ended::Failed,
     }
     let e = hex_export::export(memory, 0, out);
     match e {
-        Exported::Written(n) => after_write(write_first(out, n), Ended::Done),
-        Exported::Refused(code) => refuse(out, code, set),
+        Exported::Written(n) => after_write(write_first(rt, out, n), Ended::Done),
+        Exported::Refused(code) => refuse(rt, out, code, set),
     }
 }
 
 // Says on standard error at which line of a HEX text its load is refused.
-fn tell_line(words: usize, text: &[u8]) {
+fn tell_line<R: Eprint>(rt: &R, words: usize, text: &[u8]) {
     let at = hex_load::refused_at(words, 0, text);
     let before = lines::line_count(&text[..at]);
-    io::write_all(STDERR_FILENO, b"s5933_hex: refused at line ");
-    io::print_decimal(STDERR_FILENO, before as u64 + 1);
-    io::write_all(STDERR_FILENO, b" of the HEX text\n");
+    let line = before as u64 + 1;
+    let _ = rt.eprintln(format_args!("s5933_hex: refused at line {line} of the HEX text"));
 }
 
 // Loads a HEX text, then answers frames, and prints their log, or in its place the memory after them as HEX.
-fn load(
+fn load<R: Print + Eprint>(
+    rt: &R,
     memory: &mut [u32],
     text: &[u8],
     frames: &[u8],
@@ -145,19 +166,19 @@ fn load(
 ) -> Ended {
     let code = hex_load::load(memory, 0, text);
     if code != codes::DONE {
-        tell_line(memory.len(), text);
-        return refuse(out, code, set);
+        tell_line(rt, memory.len(), text);
+        return refuse(rt, out, code, set);
     }
     if exports {
-        return export(memory, frames, out, set);
+        return export(rt, memory, frames, out, set);
     }
-    after_write(answer(memory, frames, out, set, true), Ended::Done)
+    after_write(answer(rt, memory, frames, out, set, true), Ended::Done)
 }
 
 // ---- the input
 
 // What a mode line asks for: an export, a load of a text of so many bytes, or both.
-#[derive(Drop)]
+#[derive(Clone, Copy)]
 enum Mode {
     Export,
     Load(usize),
@@ -196,7 +217,8 @@ fn mode_in(line: &[u8]) -> Mode {
 }
 
 // Loads the first n bytes, and answers the frames behind them.
-fn load_first(
+fn load_first<R: Print + Eprint>(
+    rt: &R,
     rest: &[u8],
     n: usize,
     memory: &mut [u32],
@@ -205,77 +227,91 @@ fn load_first(
     exports: bool,
 ) -> Ended {
     if rest.len() < n {
-        return misused(b"s5933_hex: the HEX text is shorter than its length says\n");
+        return misused(rt, "the HEX text is shorter than its length says");
     }
-    load(memory, &rest[..n], &rest[n..], out, set, exports)
+    load(rt, memory, &rest[..n], &rest[n..], out, set, exports)
 }
 
 // The input past the set line, under a set.
-fn run_mode(text: &[u8], memory: &mut [u32], out: &mut [u8], set: u32) -> Ended {
+fn run_mode<R: Print + Eprint>(
+    rt: &R,
+    text: &[u8],
+    memory: &mut [u32],
+    out: &mut [u8],
+    set: u32,
+) -> Ended {
     let mode = mode_in(lines::line_at(text, 0));
     let past = lines::past_line(text, 0);
     let rest = &text[past..];
     match mode {
-        Mode::Export => export(memory, rest, out, set),
-        Mode::Load(n) => load_first(rest, n, memory, out, set, false),
-        Mode::Both(n) => load_first(rest, n, memory, out, set, true),
+        Mode::Export => export(rt, memory, rest, out, set),
+        Mode::Load(n) => load_first(rt, rest, n, memory, out, set, false),
+        Mode::Both(n) => load_first(rt, rest, n, memory, out, set, true),
         Mode::Unknown => misused(
-            b"s5933_hex: the second line is neither E nor L or B and eight digits\n",
+            rt,
+            "the second line is neither E nor L or B and eight digits",
         ),
     }
 }
 
-fn run(text: &[u8], memory: &mut [u32], out: &mut [u8]) -> Ended {
+fn run<R: Print + Eprint>(rt: &R, text: &[u8], memory: &mut [u32], out: &mut [u8]) -> Ended {
     let chosen = input::set_of(text);
     match chosen {
         Chosen::Set(set) => {
             let past = lines::past_line(text, 0);
-            run_mode(&text[past..], memory, out, set)
+            run_mode(rt, &text[past..], memory, out, set)
         }
-        Chosen::Unknown => refuse_set(out),
+        Chosen::Unknown => refuse_set(rt, out),
     }
 }
 
 // Whether the input ended after so many bytes. A read that failed does so again.
-fn has_ended(n: usize) -> bool {
+fn has_ended<R: Eprint, I: Read>(rt: &R, reader: &mut I, n: usize) -> bool {
     let mut more = [0u8; 1];
     if INPUT_MOST < n {
-        io::write_all(
-            STDERR_FILENO,
-            b"s5933_hex: the input is longer than 1048576 bytes\n",
-        );
+        let _ = rt.eprintln("s5933_hex: the input is longer than 1048576 bytes");
         return false;
     }
-    if libc::read(STDIN_FILENO, &mut more) == 0 {
-        return true;
+    match reader.read(&mut more) {
+        Ok(0) => true,
+        Ok(_) => streams::fail(rt, "s5933_hex: read", io::Error::other("a read failed")),
+        Err(e) => streams::fail(rt, "s5933_hex: read", e),
     }
-    os::fail(b"s5933_hex: read");
-    false
 }
 
-// Says how it ended by one digit.
-fn tell(ended: Ended) {
-    match ended {
-        Ended::Done => io::write_all(STATUS_FILENO, b"0"),
-        Ended::Failed => io::write_all(STATUS_FILENO, b"1"),
-        Ended::Misused => io::write_all(STATUS_FILENO, b"2"),
-        Ended::UnknownSet => io::write_all(STATUS_FILENO, b"3"),
-        Ended::Refused => io::write_all(STATUS_FILENO, b"4"),
+// Says how it ended by one digit. Nothing is said where nobody reads the output. Gives the exit status.
+fn tell<R: Files>(rt: &R, ended: Ended) -> ExitCode {
+    let digit = match ended {
+        Ended::Done => b'0',
+        Ended::Failed => b'1',
+        Ended::Misused => b'2',
+        Ended::UnknownSet => b'3',
+        Ended::Refused => b'4',
+        Ended::Unread => return ExitCode::from(streams::UNREAD),
     };
+    streams::tell(rt, digit)
 }
 
-fn read_and_run(text: &mut [u8], memory: &mut [u32], out: &mut [u8]) -> Ended {
-    let n = io::read_full(STDIN_FILENO, text);
-    if has_ended(n) {
-        return run(&text[..n], memory, out);
+fn read_and_run<R: Print + Eprint, I: Read>(
+    rt: &R,
+    reader: &mut I,
+    text: &mut [u8],
+    memory: &mut [u32],
+    out: &mut [u8],
+) -> Ended {
+    let n = streams::read_full(reader, text);
+    if has_ended(rt, reader, n) {
+        return run(rt, &text[..n], memory, out);
     }
     Ended::Failed
 }
 
-fn main() {
+fn main(rt: HostRuntime) -> ExitCode {
     let mut text = [0u8; 1048577];
     let mut memory = [0u32; 4096];
     // 41 bytes for each byte of a piece of 16,384, and for one line more: 16,385 times 41
     let mut out = [0u8; 671785];
-    tell(read_and_run(&mut text, &mut memory, &mut out));
+    let mut reader = rt.reader();
+    let ended = read_and_run(&rt, &mut reader, &mut text, &mut memory, &mut out);
+    tell(&rt, ended)
 }

@@ -1,9 +1,10 @@
 // States, windows and numbers that frames cannot reach. Each line of standard input is a case in 43 numbers of 8 hexadecimal
 // digits: the state, the window and the step; see `tests/second/cases`. For each it writes the log line of the step, and a
 // line of numbers: the state left, the first word of memory that the step changed, if any, and the marks that it changed.
+#![tactic(auto)]
+
 use controller::{ByteCount, Controller, Lane};
 use fifo::{Fifo, WordFill};
-use libc::{STDIN_FILENO, STDOUT_FILENO};
 use logline::ENGLISH;
 use machine::{Answer, Step};
 
@@ -92,7 +93,7 @@ fn changed(memory: &[u32], base: u32) -> usize {
     i
 }
 
-fn write_number(x: u32) {
+fn write_number<R: Print>(rt: &R, x: u32) {
     let d = eight::digits(x);
     let digits = [
         (d % 256) as u8,
@@ -104,72 +105,72 @@ fn write_number(x: u32) {
         ((d >> 48) % 256) as u8,
         ((d >> 56) % 256) as u8,
     ];
-    io::write_all(STDOUT_FILENO, &digits);
+    let _ = rt.write_all(&digits);
 }
 
 // A lane as it is read: of the words those that the FIFO holds, front first, zeros after them.
-fn write_lane(l: Lane) {
+fn write_lane<R: Print>(rt: &R, l: Lane) {
     let f = l.fifo;
     let fill = f.fill.0;
-    write_number(fill);
+    write_number(rt, fill);
     let words = f.words;
     let mut head = f.head;
     let mut i: u32 = 0;
     while i < 8 {
         let at = fifo::front_place(head);
-        write_number(if i < fill { words[at] } else { 0 });
+        write_number(rt, if i < fill { words[at] } else { 0 });
         head = fifo::past(head);
         i += 1;
     }
-    write_number(l.address);
-    write_number(l.count.0);
+    write_number(rt, l.address);
+    write_number(rt, l.count.0);
 }
 
-fn write_words(words: [u32; 8]) {
-    write_number(words[0]);
-    write_number(words[1]);
-    write_number(words[2]);
-    write_number(words[3]);
-    write_number(words[4]);
-    write_number(words[5]);
-    write_number(words[6]);
-    write_number(words[7]);
+fn write_words<R: Print>(rt: &R, words: [u32; 8]) {
+    write_number(rt, words[0]);
+    write_number(rt, words[1]);
+    write_number(rt, words[2]);
+    write_number(rt, words[3]);
+    write_number(rt, words[4]);
+    write_number(rt, words[5]);
+    write_number(rt, words[6]);
+    write_number(rt, words[7]);
 }
 
 // The state in the order of a case.
-fn write_state(c: Controller) {
+fn write_state<R: Print>(rt: &R, c: Controller) {
     let mail = c.mail;
-    write_words(mail);
-    write_number(c.marks);
+    write_words(rt, mail);
+    write_number(rt, c.marks);
     let from_pci = c.from_pci;
     let pci_right = from_pci.right;
-    write_lane(from_pci);
+    write_lane(rt, from_pci);
     let from_addon = c.from_addon;
     let addon_right = from_addon.right;
-    write_lane(from_addon);
-    write_number(c.intcsr);
-    write_number(c.mcsr);
-    write_number(c.aint);
-    write_number(if addon_right { 1 } else { 0 });
-    write_number(if pci_right { 1 } else { 0 });
+    write_lane(rt, from_addon);
+    write_number(rt, c.intcsr);
+    write_number(rt, c.mcsr);
+    write_number(rt, c.aint);
+    write_number(rt, if addon_right { 1 } else { 0 });
+    write_number(rt, if pci_right { 1 } else { 0 });
 }
 
 // Where the memory changed and to what; all ones and zero where it did not.
-fn write_memory(memory: &[u32], base: u32) {
+fn write_memory<R: Print>(rt: &R, memory: &[u32], base: u32) {
     let i = changed(memory, base);
     if i < memory.len() {
-        write_number((i % 0x1_0000_0000) as u32);
-        write_number(memory[i]);
+        write_number(rt, (i % 0x1_0000_0000) as u32);
+        write_number(rt, memory[i]);
     } else {
-        write_number(0xFFFF_FFFF);
-        write_number(0);
+        write_number(rt, 0xFFFF_FFFF);
+        write_number(rt, 0);
     }
 }
 
-fn write_answer(a: Answer) {
+fn write_answer<R: Print>(rt: &R, a: Answer) {
     let mut out = [0u8; 41];
     let n = logline::put_line(&mut out, 0, a, ENGLISH);
-    io::write_all(STDOUT_FILENO, &out[..n]);
+    let _ = rt.write_all(&out[..n]);
 }
 
 fn step_in(line: &[u8]) -> Step {
@@ -182,38 +183,39 @@ fn step_in(line: &[u8]) -> Step {
 }
 
 // One case over its window.
-fn run_case(line: &[u8], window: &mut [u32]) {
+fn run_case<R: Print>(rt: &R, line: &[u8], window: &mut [u32]) {
     let base = field(line, 38);
     filled(window, base);
     let r = step::step(controller(line), window, field(line, 36), step_in(line));
     let a = r.answer;
     let c = r.controller;
-    write_answer(a);
-    write_state(c);
-    write_memory(window, base);
-    write_number(a.changed);
-    io::write_all(STDOUT_FILENO, b"\n");
+    write_answer(rt, a);
+    write_state(rt, c);
+    write_memory(rt, window, base);
+    write_number(rt, a.changed);
+    let _ = rt.write_all(b"\n");
 }
 
 // The window has as many words as the case says, if there are so many.
-fn run_line(line: &[u8], memory: &mut [u32]) {
+fn run_line<R: Print>(rt: &R, line: &[u8], memory: &mut [u32]) {
     let words = field(line, 37) as usize;
     if words <= memory.len() {
-        run_case(line, &mut memory[..words]);
+        run_case(rt, line, &mut memory[..words]);
     }
 }
 
-fn run_lines(text: &[u8]) {
+fn run_lines<R: Print>(rt: &R, text: &[u8]) {
     let mut memory = [0u32; 16385];
     let mut at = 0;
     while at < text.len() {
-        run_line(lines::line_at(text, at), &mut memory);
+        run_line(rt, lines::line_at(text, at), &mut memory);
         at = lines::past_line(text, at);
     }
 }
 
-fn main() {
+fn main(rt: HostRuntime) {
     let mut text = [0u8; 524288];
-    let n = io::read_full(STDIN_FILENO, &mut text);
-    run_lines(&text[..n]);
+    let mut reader = rt.reader();
+    let n = streams::read_full(&mut reader, &mut text);
+    run_lines(&rt, &text[..n]);
 }

@@ -1,10 +1,12 @@
 // The C calls: a log, and a window as HEX text.
+#![tactic(auto)]
+
 ghost use Rattle.std.specs.Prelude.{◌≡◌};
 ghost use Rattle.station.specs.Call.{CallPromised};
 ghost use Rattle.station.specs.HexCalls.{Fits, exported_number, length_result, ExportPromised, LoadPromised};
 
-use hex_export::Exported;
 use frame_log::Logged;
+use hex_export::Exported;
 
 // The longest input, in bytes.
 const INPUT_MOST: usize = 1_048_576;

@@ -1,5 +1,7 @@
 // One step of the controller, by kind: on its words where they stand, and by value above it.
 // Each kind looks at what it needs and stores what it changes; that the rest stays is proved, not computed.
+#![tactic(auto)]
+
 ghost use Rattle.std.specs.Prelude.{◌≡◌, true, false, List, ℕ, length, replicate};
 ghost use Rattle.machine.specs.Sides as sides;
 ghost use Rattle.machine.specs.State.{State, reset_state};
@@ -17,7 +19,7 @@ use fifo::WordFill;
 use machine::{Answer, Step, codes, offsets};
 
 // The controller after a step, and the step's answer.
-#[derive(Drop)]
+#[derive(Clone, Copy)]
 pub struct Stepped {
     pub controller: Controller,
     pub answer: Answer,

@@ -2,7 +2,6 @@
 use Prim.Native.Nat.{ℕ}
 use mathlib.Core.Path.{◌≡◌}
 use mathlib.Core.List.{List}
-use Rattle.input.specs.declared.Reading.{Reading}
 use Rattle.input.specs.Input.{Passing, passing}
 use Rattle.tally.specs.Tally.{TallyOutcome, count_past, fed_tally}
 

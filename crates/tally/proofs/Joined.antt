@@ -4,12 +4,10 @@ use Prim.Native.Nat.{ℕ}
 use mathlib.Core.Path.{◌≡◌, refl, sym, ap, ◌∙◌}
 use mathlib.Core.List.{List, [], ◌∷◌, ◌++◌}
 use mathlib.Core.Bool.{cond}
-use Rattle.machine.specs.State.{State, reset_state}
-use Rattle.machine.specs.Window.{zero_words}
 use Rattle.machine.specs.Run.{run}
-use Rattle.lines.specs.Lines.{lines, lines_from}
+use Rattle.lines.specs.Lines.{lines_from}
 use Rattle.frame_log.specs.Promises.{joined, steps_in}
-use Rattle.frame_log.specs.Counts.{CountOutcome, cycles_of, count_after, count_of, end_count_of}
+use Rattle.frame_log.specs.Counts.{CountOutcome, cycles_of, count_after, end_count_of}
 use Rattle.frame_log.proofs.Counts.{count_piece}
 use Rattle.input.specs.declared.Reading.{Reading}
 use Rattle.input.specs.declared.Reading.TheVariants.{FirstLine, Frames, Over}
@@ -19,7 +17,7 @@ use Rattle.input.specs.Input.{has_set, heard, Passing, passing}
 use Rattle.input.proofs.Passing.{passing_none, passing_frames, passing_over, passing_append, passing_rest}
 use Rattle.input.proofs.ByFirst.{on_from, at_end, by_first_lem}
 use Rattle.tally.specs.declared.Total.{Total}
-use Rattle.tally.specs.declared.Total.TheVariants.{Cycles, UnknownSet}
+use Rattle.tally.specs.declared.Total.TheVariants.{UnknownSet}
 use Rattle.tally.specs.Tally.{total_of, cycles_in, total_in, TallyOutcome, count_past, fed_tally, ended_by, ended_tally, pieces_total, not_begun, TallyJoined}
 
 -- what an input comes to, by where the reading has come and the bytes past the set line, all at once

@@ -1,6 +1,6 @@
 -- What the counting program answers (document 02, Ask 8): it reads what the log program reads, and comes to two numbers.
 use Rattle.std.specs.Prelude.{ℕ, ◌≡◌, List, [], ◌∷◌, ◌++◌, cond, drop}
-use Rattle.machine.specs.State.{State, reset_state}
+use Rattle.machine.specs.State.{reset_state}
 use Rattle.machine.specs.Window.{zero_words}
 use Rattle.machine.specs.Run.{run}
 use Rattle.controller.specs.Controller.{state_of}
@@ -11,7 +11,6 @@ use Rattle.frame_log.specs.Results.{begun_of}
 use Rattle.frame_log.specs.Counts.{CountOutcome, count_after, count_of, end_count_of}
 use Rattle.input.specs.declared.Reading.{Reading}
 use Rattle.input.specs.declared.Reading.TheVariants.{FirstLine, Frames, Over}
-use Rattle.input.specs.declared.SetLine.{SetLine}
 use Rattle.input.specs.declared.SetLine.TheVariants.{Nothing}
 use Rattle.input.specs.Input.{is_set_line, has_set, passing}
 use Rattle.tally.specs.declared.Tally.{Tally}

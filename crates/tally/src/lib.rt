@@ -1,4 +1,6 @@
 // What the counting program answers to an input: how many write cycles and how many read cycles its frames do, behind a set line.
+#![tactic(auto)]
+
 ghost use Rattle.std.specs.Prelude.{◌≡◌, []};
 ghost use Rattle.machine.specs.State.{reset_state};
 ghost use Rattle.controller.specs.Controller.{state_of};
@@ -7,11 +9,11 @@ ghost use Rattle.input.specs.declared.Reading.TheVariants.{FirstLine};
 ghost use Rattle.input.specs.declared.SetLine.TheVariants.{Nothing};
 ghost use Rattle.tally.specs.Tally.{total_line, tally_of, fed_tally, ended_tally};
 
-use input::{Reading, SetLine};
 use frame_log::Stream;
+use input::{Reading, SetLine};
 
 // How far the reading has come, the frames so far, and the done cycles among them, modulo 2^32.
-#[derive(Drop)]
+#[derive(Clone, Copy)]
 pub struct Tally {
     pub reading: Reading,
     pub stream: Stream,
@@ -20,7 +22,7 @@ pub struct Tally {
 }
 
 // What an input comes to: its done write cycles and done read cycles; or that its label set is unknown.
-#[derive(Drop)]
+#[derive(Clone, Copy)]
 pub enum Total {
     Cycles(u32, u32),
     UnknownSet,

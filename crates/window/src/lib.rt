@@ -1,4 +1,6 @@
 // A window on host memory, a lent run of 32-bit words with a start address: its form, and the place of an address in it.
+#![tactic(auto)]
+
 ghost use Rattle.std.specs.Prelude.{◌≡◌};
 ghost use Rattle.machine.specs.Window.{place_of, inside, is_window_out_of_form};
 

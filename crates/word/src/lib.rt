@@ -1,4 +1,6 @@
 // 32-bit words: single bits, and the bytes that take part in an access.
+#![tactic(auto)]
+
 ghost use Rattle.std.specs.Prelude.{◌≡◌, ◌%◌};
 ghost use Rattle.machine.specs.Words.{bit, mask, cleared, raised, shown, merged, written, only};
 

@@ -1,0 +1,16 @@
+use mathlib.Core.Path.{ap, ◌∙◌}
+use mathlib.Core.Bool.{and-false}
+use Rattle.machine.specs.Interrupts.{line_of}
+use Rattle.machine.specs.Step.{answered}
+use Rattle.interrupts.proofs.Lines.{neither_below}
+use Rattle.step.proofs.answered.Goals as goal
+
+pub returns-then-intcsr-aint-lt-LOWEST_FLAG : goal.returns-then-intcsr-aint-lt-LOWEST_FLAG
+unfolding answered
+returns-then-intcsr-aint-lt-LOWEST_FLAG c = λ st i a.
+    let none = neither_below c.args.intcsr c.args.aint c.if-intcsr-aint-lt-LOWEST_FLAG.true in
+    simp (ap line_of i ∙ none.0, ap line_of a ∙ none.1, and-false)
+
+pub returns : goal.returns
+unfolding answered
+returns c = λ st i a. rw (c.line-a.ensures, c.line-i.ensures, i, a)
