@@ -11,7 +11,9 @@ pub mod Mcsr
 pub mod Cycles
 pub mod Interrupts
 pub mod Rights
+pub mod BySide
 pub mod Codes
+pub mod Refusals
 pub mod Code
 pub mod Step
 pub mod Event

@@ -5,6 +5,11 @@
 pub mod codes;
 pub mod kinds;
 pub mod offsets;
+pub mod side;
+
+pub use codes::Refusal;
+pub use kinds::StepKind;
+pub use side::{Addon, Pci, Side};
 
 // The bytes of a word, and the enables of all of them.
 pub const WORD_BYTES: u32 = 4;
@@ -12,7 +17,7 @@ pub const WORD_BYTES: u32 = 4;
 pub const ALL_ENABLES: u32 = 15;
 
 // A step, in four numbers; `value` is its data. Any four make a step.
-#[derive(Clone, Copy)]
+#[derive(Clone, Copy, Debug, Default, PartialEq, Eq)]
 pub struct Step {
     pub kind: u32,
     pub offset: u32,
@@ -22,7 +27,7 @@ pub struct Step {
 
 // An answer, in four numbers, the levels of both interrupt lines once the step is over, and the marks that the step changed, as bits of
 // offset 34, which the log does not show; `value` is its data.
-#[derive(Clone, Copy)]
+#[derive(Clone, Copy, Debug, Default, PartialEq, Eq)]
 pub struct Answer {
     pub code: u32,
     pub address: u32,

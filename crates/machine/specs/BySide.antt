@@ -1,0 +1,21 @@
+-- What a side's numbers are, where no other rule says so: the kinds of its party's read and write and of the cycle on its lane, and what four counts.
+use Rattle.std.specs.Prelude.{ℕ, Bool, true, false}
+use Rattle.machine.specs.Sides.{Side, pci, addon}
+
+abbrev pub read_kind : Side → ℕ
+read_kind pci = 0
+read_kind addon = 2
+
+abbrev pub write_kind : Side → ℕ
+write_kind pci = 1
+write_kind addon = 3
+
+-- a read cycle, a write cycle
+abbrev pub cycle_kind : Side → ℕ
+cycle_kind pci = 5
+cycle_kind addon = 4
+
+-- of the FIFO from PCI free places count, of the one from the Add-On words (`Fifos.amount`)
+abbrev pub counts_room : Side → Bool
+counts_room pci = true
+counts_room addon = false
