@@ -5,6 +5,7 @@ use mathlib.Core.Bool.{Bool, true, false, cond, ◌&&◌}
 use mathlib.Core.List.{List, [], ◌∷◌}
 use native.Mathlib.Decide.{ℕ_discrete}
 use native.Mathlib.Omega.{arith}
+use mir.Val.{bool_byte}
 use lib.Dec.{eqb, leb, ltb}
 use lib.ListN.{length, get_or, set, take, drop, length-set, length-drop}
 use lib.Seq.{get_or-set_same, get_or-set_other, take-set-le, take-set-lt, drop-set-lt, drop-set-add, drop-cons, take_all, length-take-le}
@@ -12,7 +13,7 @@ use borrow.Author.Tests.{eq-eqb, ne_eqb, leb-true, ltb-true}
 use Rattle.laws.proofs.Tests.{and_left, and_right}
 use Rattle.fifo.specs.Ring.{from}
 use Rattle.bank.specs.Bank.{state_in}
-use Rattle.bank.specs.Words.{part, mail_in, pci_in, addon_in, number_in, one_if, is_right, bank_by, state_of_words, rights_by, has_rights, is_controller, ZerosAreReset}
+use Rattle.bank.specs.Words.{part, mail_in, pci_in, addon_in, number_in, is_right, bank_by, state_of_words, rights_by, has_rights, is_controller, ZerosAreReset}
 
 pub zeros_are_reset : ZerosAreReset
 unfolding is_controller state_in from
@@ -72,16 +73,8 @@ module _ {l mail pci addon : List ℕ} {n : ℕ → ℕ} (s : Stand l mail pci a
         intcsr = at 25 refl i;
         mcsr = at 26 refl i;
         aint = at 27 refl i;
-        pci_address = at 28 refl i;
-        pci_count = record { 0 = at 29 refl i };
-        pci_head = at 30 refl i;
-        pci_fill = record { 0 = at 31 refl i };
-        addon_address = at 32 refl i;
-        addon_count = record { 0 = at 33 refl i };
-        addon_head = at 34 refl i;
-        addon_fill = record { 0 = at 35 refl i };
-        pci_right = is_right (at 36 refl i);
-        addon_right = is_right (at 37 refl i);
+        from_pci = record { address = at 28 refl i; count = record { 0 = at 29 refl i }; head = at 30 refl i; fill = record { 0 = at 31 refl i }; right = is_right (at 36 refl i) };
+        from_addon = record { address = at 32 refl i; count = record { 0 = at 33 refl i }; head = at 34 refl i; fill = record { 0 = at 35 refl i }; right = is_right (at 37 refl i) };
       }
 
   pub stand-rights : has_rights l ≡ rights_by n
@@ -156,11 +149,11 @@ stand_numbers {l = l} {mail = mail} {pci = pci} {addon = addon} {n = n} (p ∷ p
 
 -- ---- a right as a word
 
-pub right_word : (b : Bool) → is_right (one_if b) ≡ b
+pub right_word : (b : Bool) → is_right (bool_byte b) ≡ b
 right_word true = refl
 right_word false = refl
 
-pub right_small : (b : Bool) → ltb (one_if b) 2 ≡ true
+pub right_small : (b : Bool) → ltb (bool_byte b) 2 ≡ true
 right_small true = refl
 right_small false = refl
 

@@ -1,42 +1,44 @@
-// A controller as 38 words, one after the other: in an array, or in the memory of whoever keeps it. A bank has its numbers by value.
 #![tactic(auto)]
+
+mod places;
 
 ghost use Rattle.std.specs.Prelude.{◌≡◌, true, length, get_or};
 ghost use Rattle.controller.specs.Controller.{state_of};
-ghost use Rattle.bank.specs.Words.{one_if, bank_in, state_of_words, has_rights};
+ghost use Rattle.bank.specs.Words.{number_in, lane_by, bank_in, state_of_words, has_rights};
 
 use controller::{ByteCount, Controller, Lane};
 use fifo::{Fifo, WordFill};
+use machine::{Addon, Pci};
+pub use places::Places;
 
-// The numbers of a controller, those of a lane by the side that feeds it: read cycles work on the lane from PCI, write cycles on the one
-// from the Add-On.
+// The numbers of a lane, all but what stands in its FIFO's places.
+#[derive(Clone, Copy)]
+pub struct LaneBank {
+    pub address: u32,
+    pub count: ByteCount,
+    pub head: u32,
+    pub fill: WordFill,
+    pub right: bool,
+}
+
+// The numbers of a controller. Read cycles work on the lane from PCI, write cycles on the one from the Add-On.
 #[derive(Clone, Copy)]
 pub struct Bank {
     pub marks: u32,
     pub intcsr: u32,
     pub mcsr: u32,
     pub aint: u32,
-    pub pci_address: u32,
-    pub pci_count: ByteCount,
-    pub pci_head: u32,
-    pub pci_fill: WordFill,
-    pub addon_address: u32,
-    pub addon_count: ByteCount,
-    pub addon_head: u32,
-    pub addon_fill: WordFill,
-    pub pci_right: bool,
-    pub addon_right: bool,
+    pub from_pci: LaneBank,
+    pub from_addon: LaneBank,
 }
 
-// How many words there are. From 0 on stand the mailbox words, by their offset / 4.
+// All the words of a controller. From 0 on stand the mailbox words, by their offset / 4.
+pub type Words = [u32; 38];
+
+// How many words there are.
 pub const WORDS: usize = 38;
 
-// Where the places of the FIFO from PCI begin, and those of the FIFO from the Add-On.
-pub const PCI_AT: usize = 8;
-
-pub const ADDON_AT: usize = 16;
-
-// Where each number stands.
+// Where the numbers stand that are of no side; those of a side are in `places`.
 pub const MARKS: usize = 24;
 
 pub const INTCSR: usize = 25;
@@ -45,38 +47,24 @@ pub const MCSR: usize = 26;
 
 pub const AINT: usize = 27;
 
-pub const PCI_ADDRESS: usize = 28;
-
-pub const PCI_COUNT: usize = 29;
-
-pub const PCI_HEAD: usize = 30;
-
-pub const PCI_FILL: usize = 31;
-
-pub const ADDON_ADDRESS: usize = 32;
-
-pub const ADDON_COUNT: usize = 33;
-
-pub const ADDON_HEAD: usize = 34;
-
-pub const ADDON_FILL: usize = 35;
-
-pub const PCI_RIGHT: usize = 36;
-
-pub const ADDON_RIGHT: usize = 37;
-
-// A right as a word.
-pub fn one_if(b: bool) -> u32
-    ensures { result ≡ one_if b }
-{
-    if b { 1 } else { 0 }
-}
-
 // The word at a place, zero where there is none.
 fn number(words: &[u32], at: usize) -> u32
     ensures { result ≡ get_or words.now at 0 }
 {
-    if at < words.len() { words[at] } else { 0 }
+    words.get(at).copied().unwrap_or(0)
+}
+
+// The numbers of a lane among the words.
+fn lane_among<S: Places>(words: &[u32]) -> LaneBank
+    ensures { result ≡ lane_by S.side (number_in words.now) }
+{
+    LaneBank {
+        address: number(words, S::ADDRESS_AT),
+        count: ByteCount(number(words, S::COUNT_AT)),
+        head: number(words, S::HEAD_AT),
+        fill: WordFill(number(words, S::FILL_AT)),
+        right: number(words, S::RIGHT_AT) != 0,
+    }
 }
 
 // The numbers among the words.
@@ -88,20 +76,12 @@ pub fn bank_in(words: &[u32]) -> Bank
         intcsr: number(words, INTCSR),
         mcsr: number(words, MCSR),
         aint: number(words, AINT),
-        pci_address: number(words, PCI_ADDRESS),
-        pci_count: ByteCount(number(words, PCI_COUNT)),
-        pci_head: number(words, PCI_HEAD),
-        pci_fill: WordFill(number(words, PCI_FILL)),
-        addon_address: number(words, ADDON_ADDRESS),
-        addon_count: ByteCount(number(words, ADDON_COUNT)),
-        addon_head: number(words, ADDON_HEAD),
-        addon_fill: WordFill(number(words, ADDON_FILL)),
-        pci_right: number(words, PCI_RIGHT) != 0,
-        addon_right: number(words, ADDON_RIGHT) != 0,
+        from_pci: lane_among::<Pci>(words),
+        from_addon: lane_among::<Addon>(words),
     }
 }
 
-fn places(f: Fifo) -> [u32; 8]
+fn fifo_places(f: Fifo) -> [u32; 8]
     ensures { (result ≡ f.words) × (length result ≡ 8) }
 {
     let words = f.words;
@@ -117,14 +97,14 @@ pub fn words_of(c: Controller) -> [u32; 38]
     let from_addon = c.from_addon;
     let pci_fifo = from_pci.fifo;
     let addon_fifo = from_addon.fifo;
-    let pci = places(pci_fifo);
-    let addon = places(addon_fifo);
+    let pci = fifo_places(pci_fifo);
+    let addon = fifo_places(addon_fifo);
     let pci_count = from_pci.count;
     let addon_count = from_addon.count;
     let pci_fill = pci_fifo.fill;
     let addon_fill = addon_fifo.fill;
-    let pci_right = one_if(from_pci.right);
-    let addon_right = one_if(from_addon.right);
+    let pci_right = u32::from(from_pci.right);
+    let addon_right = u32::from(from_addon.right);
     [
         mail[0],
         mail[1],
@@ -181,31 +161,31 @@ pub fn controller_of(words: [u32; 38]) -> Controller
     let addon = [
         words[16], words[17], words[18], words[19], words[20], words[21], words[22], words[23],
     ];
-    let pci_fill = b.pci_fill;
-    let addon_fill = b.addon_fill;
-    let pci_count = b.pci_count;
-    let addon_count = b.addon_count;
+    let pci_fill = b.from_pci.fill;
+    let addon_fill = b.from_addon.fill;
+    let pci_count = b.from_pci.count;
+    let addon_count = b.from_addon.count;
     let pci_fifo = Fifo {
         words: pci,
-        head: b.pci_head,
+        head: b.from_pci.head,
         fill: pci_fill,
     };
     let addon_fifo = Fifo {
         words: addon,
-        head: b.addon_head,
+        head: b.from_addon.head,
         fill: addon_fill,
     };
     let from_pci = Lane {
         fifo: pci_fifo,
-        address: b.pci_address,
+        address: b.from_pci.address,
         count: pci_count,
-        right: b.pci_right,
+        right: b.from_pci.right,
     };
     let from_addon = Lane {
         fifo: addon_fifo,
-        address: b.addon_address,
+        address: b.from_addon.address,
         count: addon_count,
-        right: b.addon_right,
+        right: b.from_addon.right,
     };
     Controller {
         mail,

@@ -13,13 +13,13 @@ unfolding state_in state_of lane_of held
 returns c =
     let a = c.args.c in
     let mail = whole_run a.mail (search rules) in
-    let pci = whole_run _ c.places-pci.ensures.1 ∙ c.places-pci.ensures.0 in
-    let addon = whole_run _ c.places-addon.ensures.1 ∙ c.places-addon.ensures.0 in
-    let read = ap is_right c.one_if-pci_right.ensures ∙ right_word a.from_pci.right in
-    let write = ap is_right c.one_if-addon_right.ensures ∙ right_word a.from_addon.right in (
+    let pci = whole_run _ c.fifo_places-pci.ensures.1 ∙ c.fifo_places-pci.ensures.0 in
+    let addon = whole_run _ c.fifo_places-addon.ensures.1 ∙ c.fifo_places-addon.ensures.0 in
+    let read = ap is_right c.from-pci_right.ensures ∙ right_word a.from_pci.right in
+    let write = ap is_right c.from-addon_right.ensures ∙ right_word a.from_addon.right in (
       refl,
       (
-        rw (c.one_if-addon_right.ensures, c.one_if-pci_right.ensures, right_small a.from_pci.right, right_small a.from_addon.right),
+        rw (c.from-addon_right.ensures, c.from-pci_right.ensures, right_small a.from_pci.right, right_small a.from_addon.right),
         λ i. record {
           mail = mail i;
           marks = a.marks;
