@@ -1,9 +1,10 @@
 -- A controller as words that stand one after the other: which words stand for one, and for which state.
-use Rattle.std.specs.Prelude.{ℕ, ◌≡◌, Bool, true, not, cond, ◌&&◌, List, eqb, ltb, length, get_or, take, drop, replicate}
+use Rattle.std.specs.Prelude.{ℕ, ◌≡◌, Bool, true, not, cond, ◌&&◌, List, eqb, ltb, length, get_or, set, ◌+◌, ◌++◌, take, drop, replicate}
 use Rattle.machine.specs.Sides.{Side, pci, addon}
 use Rattle.machine.specs.State.{State, reset_state}
 use Rattle.bank.specs.Bank.{state_in}
-use Rattle.bank.specs.Places.{address_place, count_place, head_place, fill_place, right_place}
+use Rattle.bank.specs.Places.{fifo_place, address_place, count_place, head_place, fill_place, right_place}
+use Rattle.controller.specs.declared.Lane.{Lane}
 use Rattle.bank.specs.declared.Bank.{Bank}
 use Rattle.bank.specs.declared.LaneBank.{LaneBank}
 
@@ -58,6 +59,16 @@ bank_by n =
       from_pci = lane_by pci n;
       from_addon = lane_by addon n;
     }
+
+-- words with eight others from a place on
+abbrev pub with_run : ℕ → List ℕ → List ℕ → List ℕ
+with_run at run words = take at words ++ run ++ drop (at + 8) words
+
+-- words with those of a lane in place of the ones that stood there
+abbrev pub with_lane : Side → Lane → List ℕ → List ℕ
+with_lane side l words =
+    set (set (set (set (set (with_run (fifo_place side) l.fifo.words words) (address_place side) l.address) (count_place side) l.count.0) (head_place side) l.fifo.head) (fill_place side) l.fifo.fill.0)
+    (right_place side) (one_if l.right)
 
 abbrev pub bank_in : List ℕ → Bank
 bank_in words = bank_by (number_in words)

@@ -1,10 +1,12 @@
+// A controller as 38 words, one after the other: in an array, or in the memory of whoever keeps it. A bank has its numbers by value.
 #![tactic(auto)]
 
 mod places;
 
 ghost use Rattle.std.specs.Prelude.{◌≡◌, true, length, get_or};
-ghost use Rattle.controller.specs.Controller.{state_of};
-ghost use Rattle.bank.specs.Words.{number_in, lane_by, bank_in, state_of_words, has_rights};
+ghost use Rattle.controller.specs.Controller.{lane_of, state_of};
+ghost use Rattle.bank.specs.Bank.{lane_with};
+ghost use Rattle.bank.specs.Words.{with_lane, number_in, lane_by, bank_in, state_of_words, has_rights};
 
 use controller::{ByteCount, Controller, Lane};
 use fifo::{Fifo, WordFill};
@@ -81,117 +83,60 @@ pub fn bank_in(words: &[u32]) -> Bank
     }
 }
 
-fn fifo_places(f: Fifo) -> [u32; 8]
-    ensures { (result ≡ f.words) × (length result ≡ 8) }
+// A lane, put among the words of a controller.
+fn put_lane<S: Places>(words: &mut Words, lane: Lane)
+    ensures { words.new ≡ with_lane S.side lane words.old }
 {
-    let words = f.words;
-    words
+    words[S::FIFO_AT..S::FIFO_AT + 8].copy_from_slice(&lane.fifo.words);
+    words[S::ADDRESS_AT] = lane.address;
+    words[S::COUNT_AT] = lane.count.0;
+    words[S::HEAD_AT] = lane.fifo.head;
+    words[S::FILL_AT] = lane.fifo.fill.0;
+    words[S::RIGHT_AT] = u32::from(lane.right);
 }
 
 // The words of a controller.
-pub fn words_of(c: Controller) -> [u32; 38]
+pub fn words_of(c: Controller) -> Words
     ensures { (length result ≡ 38) × ((has_rights result ≡ true) × (state_of_words result ≡ state_of c)) }
 {
-    let mail = c.mail;
-    let from_pci = c.from_pci;
-    let from_addon = c.from_addon;
-    let pci_fifo = from_pci.fifo;
-    let addon_fifo = from_addon.fifo;
-    let pci = fifo_places(pci_fifo);
-    let addon = fifo_places(addon_fifo);
-    let pci_count = from_pci.count;
-    let addon_count = from_addon.count;
-    let pci_fill = pci_fifo.fill;
-    let addon_fill = addon_fifo.fill;
-    let pci_right = u32::from(from_pci.right);
-    let addon_right = u32::from(from_addon.right);
-    [
-        mail[0],
-        mail[1],
-        mail[2],
-        mail[3],
-        mail[4],
-        mail[5],
-        mail[6],
-        mail[7],
-        pci[0],
-        pci[1],
-        pci[2],
-        pci[3],
-        pci[4],
-        pci[5],
-        pci[6],
-        pci[7],
-        addon[0],
-        addon[1],
-        addon[2],
-        addon[3],
-        addon[4],
-        addon[5],
-        addon[6],
-        addon[7],
-        c.marks,
-        c.intcsr,
-        c.mcsr,
-        c.aint,
-        from_pci.address,
-        pci_count.0,
-        pci_fifo.head,
-        pci_fill.0,
-        from_addon.address,
-        addon_count.0,
-        addon_fifo.head,
-        addon_fill.0,
-        pci_right,
-        addon_right,
-    ]
+    let mut words = [0; 38];
+    words[..8].copy_from_slice(&c.mail);
+    words[MARKS] = c.marks;
+    words[INTCSR] = c.intcsr;
+    words[MCSR] = c.mcsr;
+    words[AINT] = c.aint;
+    put_lane::<Pci>(&mut words, c.from_pci);
+    put_lane::<Addon>(&mut words, c.from_addon);
+    words
+}
+
+// A lane of its numbers and its FIFO's places.
+fn lane_of(b: LaneBank, places: [u32; 8]) -> Lane
+    ensures { lane_of result ≡ lane_with b places }
+{
+    Lane {
+        fifo: Fifo {
+            words: places,
+            head: b.head,
+            fill: b.fill,
+        },
+        address: b.address,
+        count: b.count,
+        right: b.right,
+    }
 }
 
 // The controller of these words.
-pub fn controller_of(words: [u32; 38]) -> Controller
+pub fn controller_of(words: Words) -> Controller
     ensures { state_of result ≡ state_of_words words }
 {
     let b = bank_in(&words);
-    let mail = [
-        words[0], words[1], words[2], words[3], words[4], words[5], words[6], words[7],
-    ];
-    let pci = [
-        words[8], words[9], words[10], words[11], words[12], words[13], words[14], words[15],
-    ];
-    let addon = [
-        words[16], words[17], words[18], words[19], words[20], words[21], words[22], words[23],
-    ];
-    let pci_fill = b.from_pci.fill;
-    let addon_fill = b.from_addon.fill;
-    let pci_count = b.from_pci.count;
-    let addon_count = b.from_addon.count;
-    let pci_fifo = Fifo {
-        words: pci,
-        head: b.from_pci.head,
-        fill: pci_fill,
-    };
-    let addon_fifo = Fifo {
-        words: addon,
-        head: b.from_addon.head,
-        fill: addon_fill,
-    };
-    let from_pci = Lane {
-        fifo: pci_fifo,
-        address: b.from_pci.address,
-        count: pci_count,
-        right: b.from_pci.right,
-    };
-    let from_addon = Lane {
-        fifo: addon_fifo,
-        address: b.from_addon.address,
-        count: addon_count,
-        right: b.from_addon.right,
-    };
+    let (runs, _) = words.as_chunks::<8>();
     Controller {
-        mail,
+        mail: runs[0],
         marks: b.marks,
-        from_pci,
-        from_addon,
+        from_pci: lane_of(b.from_pci, runs[1]),
+        from_addon: lane_of(b.from_addon, runs[2]),
         intcsr: b.intcsr,
         mcsr: b.mcsr,
         aint: b.aint,
