@@ -4,7 +4,6 @@
 ghost use Rattle.std.specs.Prelude.{◌≡◌, ◌+◌, ◌≤◌, cond, ◌++◌, length};
 ghost use Rattle.machine.specs.Codes.{unknown_label_set};
 ghost use Rattle.hex_digits.specs.Hex.{bytes, digits};
-ghost use Rattle.eight.specs.Written.{bytes_of};
 ghost use Rattle.output.specs.Wrote.{Wrote};
 ghost use Rattle.logline.specs.Labels.{english, german, english_set, is_set, label_in, label_of};
 ghost use Rattle.logline.specs.LogLine.{numbers, refusing, line_in};
@@ -20,14 +19,6 @@ pub const ENGLISH: u32 = 0;
 // How many label sets there are.
 const SETS: u32 = 2;
 
-// The digits of zero, two and eight of them, in bytes.
-const TWO_ZEROS: u64 = 0x3030;
-
-const EIGHT_ZEROS: u64 = 0x3030_3030_3030_3030;
-
-// In four bytes none, two zeros and a space.
-const SPACE_AND_ZEROS: u64 = 0x2030_3000;
-
 // Whether a number is that of a label set.
 pub fn is_set(set: u32) -> bool
     ensures { result ≡ is_set set }
@@ -35,33 +26,14 @@ pub fn is_set(set: u32) -> bool
     set < SETS
 }
 
-// Writes the lowest `count` bytes of a number, the lowest first, and answers the place past them.
-fn put_bytes(out: &mut [u8], at: usize, count: usize, bytes: u64) -> usize
-    requires { at + count ≤ length out.old }
-    ensures { (result ≡ at + count) × Wrote out.old at (bytes_of count bytes) result out.new }
-{
-    let mut p = at;
-    let mut n = count;
-    let mut left = bytes;
-    while 0 < n {
-        out[p] = (left % 256) as u8;
-        p += 1;
-        n -= 1;
-        left = left / 256;
-    }
-    p
-}
-
+// Writes some bytes, and answers the place past them.
 fn put(out: &mut [u8], at: usize, src: &[u8]) -> usize
     requires { at + length src.now ≤ length out.old }
     ensures { Wrote out.old at src.now result out.new }
 {
-    let mut i = 0;
-    while i < src.len() {
-        out[at + i] = src[i];
-        i += 1;
-    }
-    at + i
+    let end = at + src.len();
+    out[at..end].copy_from_slice(src);
+    end
 }
 
 // Each label is a byte string in the arm of its code; a function has eight at most, since its check grows faster than its arms.
@@ -180,38 +152,35 @@ fn put_label(out: &mut [u8], at: usize, code: u32, set: u32) -> usize
     }
 }
 
-fn one_if(on: bool, one: u64) -> u64
-    ensures { (result ≡ cond on one 0) × (result ≤ one) }
-{
-    if on { one } else { 0 }
-}
-
-// The two digits of a code, in the lowest two bytes.
-fn code_digits(code: u32) -> u64
-    ensures { bytes_of 2 result ≡ digits 2 code }
+// The two digits of a code.
+fn code_digits(code: u32) -> [u8; 2]
+    ensures { result ≡ digits 2 code }
 {
     if code == 0 {
-        return TWO_ZEROS;
+        return *b"00";
     }
-    eight::digit(code / 16) as u64 + eight::digit(code) as u64 * 0x100
+    [eight::digit(code / 16), eight::digit(code)]
 }
 
-// The digits of the enables and of both lines, and a space, in the lowest four bytes.
-fn last_digits(a: Answer) -> u64
-    ensures { bytes_of 4 result ≡ digits 1 a.enables ++ digits 1 (cond a.line 1 0) ++ digits 1 (cond a.addon_line 1 0) ++ bytes " " }
+// The digits of the enables and of both lines, and a space.
+fn last_digits(a: Answer) -> [u8; 4]
+    ensures { result ≡ digits 1 a.enables ++ digits 1 (cond a.line 1 0) ++ digits 1 (cond a.addon_line 1 0) ++ bytes " " }
 {
-    let line = one_if(a.line, 0x100);
-    let addon_line = one_if(a.addon_line, 0x1_0000);
-    eight::digit(a.enables) as u64 + line + addon_line + SPACE_AND_ZEROS
+    [
+        eight::digit(a.enables),
+        b'0' + u8::from(a.line),
+        b'0' + u8::from(a.addon_line),
+        b' ',
+    ]
 }
 
 // The eight digits of a number that mostly is zero. (The branch also keeps the compiler from joining two numbers in vectors, whose
 // constants would take more read-only room than a table of digits.)
-fn mostly_zeros(x: u32) -> u64
-    ensures { bytes_of 8 result ≡ digits 8 x }
+fn mostly_zeros(x: u32) -> [u8; 8]
+    ensures { result ≡ digits 8 x }
 {
     if x == 0 {
-        return EIGHT_ZEROS;
+        return *b"00000000";
     }
     eight::digits(x)
 }
@@ -225,10 +194,10 @@ fn put_numbers(out: &mut [u8], at: usize, a: Answer) -> usize
     let address = mostly_zeros(a.address);
     let value = eight::digits(a.value);
     let last = last_digits(a);
-    let p1 = put_bytes(out, at, 2, code);
-    let p2 = put_bytes(out, p1, 8, address);
-    let p3 = put_bytes(out, p2, 8, value);
-    put_bytes(out, p3, 4, last)
+    let p1 = put(out, at, &code);
+    let p2 = put(out, p1, &address);
+    let p3 = put(out, p2, &value);
+    put(out, p3, &last)
 }
 
 // Writes the log line of an answer at a place, with the label of a set, and answers the place past it. Where there is no room

@@ -1,10 +1,6 @@
 use Rattle.hex_digits.specs.Hex.{hex_digits, digit_of, digits}
-use Rattle.eight.specs.Written.{bytes_of}
 use Rattle.logline.proofs.mostly_zeros.Goals as goal
 
 pub returns-then-x-eq0 : goal.returns-then-x-eq0
-unfolding hex_digits digit_of digits bytes_of
+unfolding hex_digits digit_of digits
 returns-then-x-eq0 c = rw c.if-x-eq0.true
-
-pub returns : goal.returns
-returns c = c.digits.ensures
