@@ -12,12 +12,12 @@ use Rattle.mcsr.proofs.mcsr_read.Goals as goal
 
 pub overflow_mul-result : goal.overflow_mul-result
 overflow_mul-result c =
-    let n = c.args.b.addon_fill.0 in
+    let n = c.args.b.from_addon.fill.0 in
     let words = from {A = ℕ} 8 0 [] 0 n in
-    omega (arith, c.from_addon_status-from_addon.ensures words (length_from 8 0 [] 0 n), status_small sides.addon words)
+    omega (arith, c.fifo_status-from_addon.ensures words (length_from 8 0 [] 0 n), status_small sides.addon words)
 
 pub returns : goal.returns
 unfolding state_in mcsr_read mcsr_status flag
 returns c = λ mail pci addon.
     let b = c.args.b in
-    simp (c.from_pci_status-from_pci.ensures (from 8 0 pci b.pci_head b.pci_fill.0) (length_from 8 0 pci b.pci_head b.pci_fill.0), c.from_addon_status-from_addon.ensures (from 8 0 addon b.addon_head b.addon_fill.0) (length_from 8 0 addon b.addon_head b.addon_fill.0), c.flag-read_zero.ensures, c.is_zero-2.ensures, c.flag-write_zero.ensures, c.is_zero.ensures)
+    simp (c.fifo_status-from_pci.ensures (from 8 0 pci b.from_pci.head b.from_pci.fill.0) (length_from 8 0 pci b.from_pci.head b.from_pci.fill.0), c.fifo_status-from_addon.ensures (from 8 0 addon b.from_addon.head b.from_addon.fill.0) (length_from 8 0 addon b.from_addon.head b.from_addon.fill.0), c.flag-read_zero.ensures, c.is_zero-2.ensures, c.flag-write_zero.ensures, c.is_zero.ensures)
