@@ -1,13 +1,14 @@
 -- Masks and sums on packed bytes are masks and sums on each.
-use Prim.Native.Nat.{ℕ, ◌+◌, ◌*◌, ◌/◌, ◌%◌, ◌≤◌, ◌<◌}
-use mathlib.Core.Path.{◌≡◌, refl, sym, ◌∙◌}
+use Prim.Native.Nat.{ℕ, suc, ◌+◌, ◌*◌, ◌/◌, ◌%◌, ◌≤◌, ◌<◌}
+use mathlib.Core.Path.{◌≡◌, refl, sym, ap, subst, ◌∙◌}
 use mathlib.Core.Bool.{Bool, true, false, cond, ◌&&◌, true≢false}
 use mathlib.Core.List.{List, [], ◌∷◌, map}
 use native.Mathlib.Omega.{arith}
 use native.Mathlib.Decide.{ℕ_discrete}
 use lib.Dec.{eqb, ltb}
 use lib.Bits.{bit_and, bit_or, bit_xor, and_le_l, and_le_r, and_zero_l, and_zero_r, and_block, and_mask, and_high, or_add_and, or_zero_l, or_zero_r, or_block, or_lt, xor_add_and, xor_self}
-use lib.ListN.{length, replicate, length-map}
+use lib.ListN.{length, get_or, replicate, length-map}
+use Rattle.std.specs.Int.{w64, from_le_bytes}
 use borrow.Author.Tests.{ltb-true, eqb-true, eq-eqb, ne_eqb}
 use Rattle.hex_digits.specs.Hex.{hex_digits, place_in, digit_number, all_digits, number_from}
 use Rattle.laws.proofs.Below.{both, below_at}
@@ -270,9 +271,47 @@ pub in_order : (n0 n1 n2 n3 n4 n5 n6 n7 : ℕ)
     → ((n0 * 16 + n1) * 256 + (n2 * 16 + n3)) * 0x1_0000 + ((n4 * 16 + n5) * 256 + (n6 * 16 + n7)) ≡ joined_from 0 (n0 ∷ n1 ∷ n2 ∷ n3 ∷ n4 ∷ n5 ∷ n6 ∷ n7 ∷ [])
 in_order n0 n1 n2 n3 n4 n5 n6 n7 = omega arith
 
-pub small : (a b : ℕ) → a < 16 → b < 16 → a * 16 + b < 256
+small : (a b : ℕ) → a < 16 → b < 16 → a * 16 + b < 256
 small a b h k = omega arith
 
--- eight numbers below 16
-pub packed_le : (n0 n1 n2 n3 n4 n5 n6 n7 : ℕ) → Each 16 (n0 ∷ n1 ∷ n2 ∷ n3 ∷ n4 ∷ n5 ∷ n6 ∷ n7 ∷ []) → packed (n0 ∷ n1 ∷ n2 ∷ n3 ∷ n4 ∷ n5 ∷ n6 ∷ n7 ∷ []) ≤ 0x0F0F_0F0F_0F0F_0F0F
-packed_le n0 n1 n2 n3 n4 n5 n6 n7 e = omega arith
+-- ---- eight of them, as a list
+
+spelt : (bs : List ℕ) → length bs ≡ 8 → get_or bs 0 0 ∷ get_or bs 1 0 ∷ get_or bs 2 0 ∷ get_or bs 3 0 ∷ get_or bs 4 0 ∷ get_or bs 5 0 ∷ get_or bs 6 0 ∷ get_or bs 7 0 ∷ [] ≡ bs
+spelt [] n = absurd (omega arith)
+spelt (a ∷ []) n = absurd (omega arith)
+spelt (a ∷ b ∷ []) n = absurd (omega arith)
+spelt (a ∷ b ∷ c ∷ []) n = absurd (omega arith)
+spelt (a ∷ b ∷ c ∷ d ∷ []) n = absurd (omega arith)
+spelt (a ∷ b ∷ c ∷ d ∷ e ∷ []) n = absurd (omega arith)
+spelt (a ∷ b ∷ c ∷ d ∷ e ∷ f ∷ []) n = absurd (omega arith)
+spelt (a ∷ b ∷ c ∷ d ∷ e ∷ f ∷ g ∷ []) n = absurd (omega arith)
+spelt (a ∷ b ∷ c ∷ d ∷ e ∷ f ∷ g ∷ h ∷ []) n = refl
+spelt (a ∷ b ∷ c ∷ d ∷ e ∷ f ∷ g ∷ h ∷ i ∷ bs) n = absurd (omega arith)
+
+pub packed_le : (ns : List ℕ) → length ns ≡ 8 → Each 16 ns → packed ns ≤ 0x0F0F_0F0F_0F0F_0F0F
+packed_le ns n e = let each = subst (Each 16) (sym (spelt ns n)) e in omega (arith, ap packed (spelt ns n))
+
+pub joined_is : (ns : List ℕ) (d : ℕ) → length ns ≡ 8 → Each 16 ns → d ≡ packed ns
+    → let four = bit_and (bit_and (d * 0x10 + d / 0x100) 0x00FF_00FF_00FF_00FF * 0x100 + bit_and (d * 0x10 + d / 0x100) 0x00FF_00FF_00FF_00FF / 0x1_0000) 0x0000_FFFF_0000_FFFF in
+    four % 0x1_0000_0000 * 0x1_0000 + four / 0x1_0000_0000 ≡ joined_from 0 ns
+joined_is ns d n e q =
+    let at = λ (i : ℕ). get_or ns i 0 in
+    let each = subst (Each 16) (sym (spelt ns n)) e in
+    rw (four-joined (at 0) (at 1) (at 2) (at 3) (at 4) (at 5) (at 6) (at 7) d each (q ∙ sym (ap packed (spelt ns n))))
+    (last_joined (at 0 * 16 + at 1) (at 2 * 16 + at 3) (at 4 * 16 + at 5) (at 6 * 16 + at 7) (small (at 0) (at 1) each.0 each.1.0) (small (at 2) (at 3) each.1.1.0 each.1.1.1.0)
+    ∙ in_order (at 0) (at 1) (at 2) (at 3) (at 4) (at 5) (at 6) (at 7) ∙ ap (joined_from 0) (spelt ns n))
+
+pub length_numbers : (bs : List ℕ) → length (numbers_in bs) ≡ length bs
+length_numbers [] = refl
+length_numbers (b ∷ bs) = ap suc (length_numbers bs)
+
+-- ---- eight bytes as `from_le_bytes` has them
+
+pub each_byte : (bs : List ℕ) → ((i : ℕ) → get_or bs i 0 < 256) → Each 256 bs
+each_byte [] h = tt
+each_byte (b ∷ bs) h = (h 0, each_byte bs (λ i. h (suc i)))
+
+pub packed_eight : (bs : List ℕ) → length bs ≡ 8 → from_le_bytes w64 bs ≡ packed bs
+packed_eight bs n = omega (arith, ap packed (spelt bs n))
+
+pub ruleset eight_bytes = (each_byte, packed_eight)

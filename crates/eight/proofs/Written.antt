@@ -1,28 +1,24 @@
 -- Digits in the bytes of a number, all at once.
---     length_bytes                   as many bytes as asked for
 --     carry, digits_by               what `texts_at` adds to numbers in bytes makes each of them its digit
---     bytes_texts                    those digits as the bytes of a number
+--     text_bytes_small               those digits are bytes
 --     eight_are                      the same of eight
 --     bytes-picked, numbers-picked   the bytes of a number and their digits, by what is joined and masked
---     eight-at                       the eight digits of a number
+--     eight_at                       the eight digits of a number
 use Prim.Native.Nat.{ℕ, zero, suc, ◌+◌, ◌*◌, ◌/◌, ◌%◌, ◌^◌, ◌<◌}
-use mathlib.Core.Path.{◌≡◌, refl, ap, ◌∙◌}
+use mathlib.Core.Path.{◌≡◌, refl, ◌∙◌}
 use mathlib.Core.List.{List, [], ◌∷◌}
 use native.Mathlib.Omega.{arith}
-use lib.ListN.{length}
+use lib.ListN.{get_or}
 use lib.Dec.{ltb, eqb, lit<}
 use lib.Bits.{bit_and, bit_or, and_block, and_mask, and_zero_r, or_zero_r, or_shifted_r, or_mod}
 use borrow.Author.Tests.{eqb-true, ltb-true}
 use Rattle.hex_digits.specs.Hex.{hex_digits, digit_of, digits}
 use Rattle.eight.specs.Packed.{packed, Each}
-use Rattle.eight.specs.Written.{bytes_of, lowest_in, texts_at}
+use Rattle.eight.specs.Written.{lowest_in, texts_at}
 use Rattle.eight.proofs.Packed.{picked, all_255}
 use Rattle.laws.proofs.Below.{below_at}
-
-pub length_bytes : (n x : ℕ) → length (bytes_of n x) ≡ n
-unfolding bytes_of
-length_bytes zero x = refl
-length_bytes (suc n) x = ap suc (length_bytes n (x / 256))
+use Rattle.std.specs.Int.{w64, from_le_bytes, to_le_bytes}
+use Rattle.std.proofs.lemmas.Nat.{le_bytes_8}
 
 -- a byte for each of some numbers: the same one; the digit
 abbrev pub each : ℕ → List ℕ → ℕ
@@ -65,14 +61,10 @@ digits_by (x ∷ xs) =
     let e : lowest_in xs * 256 + n + (each 6 xs * 256 + 6) ≡ r * 256 + (n + 6) = omega arith in
     rw (e, carry r (each 1 xs) n h, ← digit_by n h) (omega arith)
 
-pub bytes_texts : (xs : List ℕ) → bytes_of (length xs) (texts xs) ≡ text_bytes xs
-unfolding bytes_of
-bytes_texts [] = refl
-bytes_texts (x ∷ xs) =
-    let h = digit_small (x % 16) (omega arith) in
-    let low : texts (x ∷ xs) % 256 ≡ digit_of (x % 16) = omega arith in
-    let high : texts (x ∷ xs) / 256 ≡ texts xs = omega arith in
-    rw (low, high, bytes_texts xs)
+text_bytes_small : (xs : List ℕ) (i : ℕ) → get_or (text_bytes xs) i 0 < 256
+text_bytes_small [] i = lit< tt
+text_bytes_small (x ∷ xs) zero = digit_small (x % 16) (omega arith)
+text_bytes_small (x ∷ xs) (suc i) = text_bytes_small xs i
 
 -- ---- eight of them
 
@@ -150,5 +142,7 @@ module _ (x : ℕ) where
       let p0 : x % 256 % 16 ≡ x % 16 = omega arith in
       λ i. digit_of (p7 i) ∷ digit_of (p6 i) ∷ digit_of (p5 i) ∷ digit_of (p4 i) ∷ digit_of (p3 i) ∷ digit_of (p2 i) ∷ digit_of (p1 i) ∷ digit_of (p0 i) ∷ []
 
-  pub eight-at : (n : ℕ) → n ≡ lowest_in parts → bytes_of 8 (texts_at n) ≡ digits 8 x
-  eight-at n e = rw (e, eight_are) (bytes_texts parts ∙ parts-texts)
+  pub eight_at : (n : ℕ) → n ≡ lowest_in parts → to_le_bytes w64 (texts_at n) ≡ digits 8 x
+  eight_at n e =
+      let is : texts_at n ≡ from_le_bytes w64 (text_bytes parts) = rw (e, eight_are) (omega arith) in
+      le_bytes_8 (text_bytes parts) (texts_at n) refl (text_bytes_small parts) is ∙ parts-texts

@@ -1,5 +1,5 @@
 -- Bytes in one number, the first lowest; and what the digits among them say.
-use Rattle.std.specs.Prelude.{ℕ, ◌+◌, ◌*◌, ◌/◌, ◌%◌, ◌<◌, cond, List, [], ◌∷◌}
+use Rattle.std.specs.Prelude.{ℕ, ◌+◌, ◌*◌, ◌/◌, ◌%◌, ◌<◌, cond, List, [], ◌∷◌, Option, Some, None}
 use Rattle.hex_digits.specs.Hex.{all_digits, number}
 
 abbrev pub packed : List ℕ → ℕ
@@ -24,6 +24,6 @@ abbrev pub joined_from : ℕ → List ℕ → ℕ
 joined_from n [] = n
 joined_from n (d ∷ ds) = joined_from (n * 16 + d) ds
 
--- the number that digits stand for, 2^32 if a byte is none
-unfoldable pub number_or : List ℕ → ℕ
-number_or bs = cond (all_digits bs) (number bs) 0x1_0000_0000
+-- the number that digits stand for, of bytes that may be none
+unfoldable pub number_if_digits : List ℕ → Option ℕ
+number_if_digits bs = cond (all_digits bs) (Some (number bs)) None

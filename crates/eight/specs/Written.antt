@@ -1,11 +1,6 @@
 -- Eight digits as the bytes of one number, written all at once.
-use Rattle.std.specs.Prelude.{ℕ, zero, suc, ◌+◌, ◌*◌, ◌/◌, ◌%◌, List, [], ◌∷◌}
+use Rattle.std.specs.Prelude.{ℕ, ◌+◌, ◌*◌, ◌/◌, ◌%◌, List, [], ◌∷◌}
 use Rattle.std.specs.Int.Bits.{bit_and}
-
--- the lowest `count` bytes of x, the lowest first
-unfoldable pub bytes_of : ℕ → ℕ → List ℕ
-bytes_of zero x = []
-bytes_of (suc count) x = x % 256 ∷ bytes_of count (x / 256)
 
 -- the lowest digits of some numbers as numbers below 16, each in a byte, the first in the lowest
 unfoldable pub lowest_in : List ℕ → ℕ

@@ -3,19 +3,17 @@
 
 ghost use Rattle.std.specs.Prelude.{◌≡◌, List, [], ◌∷◌, ℕ, ◌/◌, ◌%◌, ◌≤◌, ◌<◌, length};
 ghost use Rattle.hex_digits.specs.Hex.{all_digits, digit_of, digits};
-ghost use Rattle.eight.specs.Packed.{packed, Each, numbers_in, joined_from, number_or};
-ghost use Rattle.eight.specs.Written.{bytes_of, lowest_in, texts_at};
+ghost use Rattle.eight.specs.Packed.{packed, Each, numbers_in, joined_from, number_if_digits};
+ghost use Rattle.eight.specs.Written.{lowest_in, texts_at};
 
-// What is answered for bytes that are not eight digits.
-pub const NONE: u64 = 0x1_0000_0000;
-
-// Eight bytes, the first lowest: by halves, each of which the compiler reads at once.
-fn word_of(b0: u8, b1: u8, b2: u8, b3: u8, b4: u8, b5: u8, b6: u8, b7: u8) -> u64
-    ensures { result ≡ packed (b0 ∷ b1 ∷ b2 ∷ b3 ∷ b4 ∷ b5 ∷ b6 ∷ b7 ∷ []) }
+// Eight bytes as one number, the first lowest.
+#[tactic(auto, using(crate::proofs::Packed::eight_bytes))]
+fn word_of(text: &[u8; 8]) -> u64
+    ensures long { length text.now ≡ 8 }
+    ensures bytes { Each 256 text.now }
+    ensures value { result ≡ packed text.now }
 {
-    let low = b0 as u64 + b1 as u64 * 0x100 + b2 as u64 * 0x1_0000 + b3 as u64 * 0x100_0000;
-    let high = b4 as u64 + b5 as u64 * 0x100 + b6 as u64 * 0x1_0000 + b7 as u64 * 0x100_0000;
-    low + high * 0x1_0000_0000
+    u64::from_le_bytes(*text)
 }
 
 // What each byte says if it is a digit: its low four bits, and 9 more for a letter.
@@ -39,30 +37,31 @@ fn are_digits(v: u64, d: u64) -> bool
 // Eight numbers below 16 as one, the first highest: two are joined in each 16 bits, then four in each 32, then all.
 fn joined(d: u64) -> u64
     requires { d ≤ 0x0F0F_0F0F_0F0F_0F0F }
-    ensures { (n0 n1 n2 n3 n4 n5 n6 n7 : ℕ) → Each 16 (n0 ∷ n1 ∷ n2 ∷ n3 ∷ n4 ∷ n5 ∷ n6 ∷ n7 ∷ []) → d ≡ packed (n0 ∷ n1 ∷ n2 ∷ n3 ∷ n4 ∷ n5 ∷ n6 ∷ n7 ∷ []) → result ≡ joined_from 0 (n0 ∷ n1 ∷ n2 ∷ n3 ∷ n4 ∷ n5 ∷ n6 ∷ n7 ∷ []) }
+    ensures { (ns : List ℕ) → length ns ≡ 8 → Each 16 ns → d ≡ packed ns → result ≡ joined_from 0 ns }
 {
     let two = (d * 0x10 + d / 0x100) & 0x00FF_00FF_00FF_00FF;
     let four = (two * 0x100 + two / 0x1_0000) & 0x0000_FFFF_0000_FFFF;
     (four % 0x1_0000_0000) * 0x1_0000 + four / 0x1_0000_0000
 }
 
-// The number that eight digits stand for, 2^32 if a byte is none.
-pub fn number(b0: u8, b1: u8, b2: u8, b3: u8, b4: u8, b5: u8, b6: u8, b7: u8) -> u64
-    ensures { result ≡ number_or (b0 ∷ b1 ∷ b2 ∷ b3 ∷ b4 ∷ b5 ∷ b6 ∷ b7 ∷ []) }
+// The number that eight digits stand for, if the bytes are digits.
+pub fn number(text: [u8; 8]) -> Option<u32>
+    ensures { result ≡ number_if_digits text }
 {
-    let v = word_of(b0, b1, b2, b3, b4, b5, b6, b7);
+    let v = word_of(&text);
     let d = numbers_in(v);
     if are_digits(v, d) {
-        return joined(d);
+        Some(joined(d) as u32)
+    } else {
+        None
     }
-    NONE
 }
 
 // The four bytes of a number, each in 16 bits, the highest lowest: halves change places, then the bytes of each.
-fn bytes_apart(w: u64) -> u64
-    requires { w ≤ 0xFFFF_FFFF }
-    ensures { result ≡ packed (w / 0x100_0000 ∷ 0 ∷ w / 0x1_0000 % 256 ∷ 0 ∷ w / 0x100 % 256 ∷ 0 ∷ w % 256 ∷ 0 ∷ []) }
+fn bytes_apart(x: u32) -> u64
+    ensures { result ≡ packed (x / 0x100_0000 ∷ 0 ∷ x / 0x1_0000 % 256 ∷ 0 ∷ x / 0x100 % 256 ∷ 0 ∷ x % 256 ∷ 0 ∷ []) }
 {
+    let w = u64::from(x);
     let u = (w >> 16) | ((w & 0xFFFF) << 32);
     ((u >> 8) | (u << 16)) & 0x00FF_00FF_00FF_00FF
 }
@@ -85,17 +84,17 @@ fn texts_at(n: u64) -> u64
     n + 0x3030_3030_3030_3030 + letters * 7
 }
 
-// The lowest eight digits of a number, each in a byte, the highest in the lowest.
-pub fn digits(x: u32) -> u64
-    ensures { bytes_of 8 result ≡ digits 8 x }
+// The lowest eight digits of a number, the highest first.
+pub fn digits(x: u32) -> [u8; 8]
+    ensures { result ≡ digits 8 x }
 {
-    texts_at(numbers_apart(bytes_apart(x as u64)))
+    texts_at(numbers_apart(bytes_apart(x))).to_le_bytes()
 }
 
 // The digit of a number's lowest four bits.
-pub fn digit(n: u32) -> u32
-    ensures { (result ≡ digit_of (n % 16)) × (result < 256) }
+pub fn digit(n: u32) -> u8
+    ensures { result ≡ digit_of (n % 16) }
 {
     let d = n % 16;
-    d + 0x30 + (d + 6) / 16 * 7
+    (d + 0x30 + (d + 6) / 16 * 7) as u8
 }

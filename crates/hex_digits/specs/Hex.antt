@@ -1,5 +1,5 @@
 -- Texts as bytes, and digits. Frames and the log: one table of sixteen digits, letters in upper case, by which frames are read and logs written.
-use Rattle.std.specs.Prelude.{ℕ, zero, suc, ◌+◌, ◌*◌, ◌/◌, ◌%◌, List, [], ◌∷◌, ◌++◌, Bool, true, cond, ◌&&◌, get_or, ltb, eqb}
+use Rattle.std.specs.Prelude.{ℕ, zero, suc, ◌+◌, ◌*◌, ◌/◌, ◌%◌, List, [], ◌∷◌, ◌++◌, Bool, true, cond, ◌&&◌, get_or, ltb, eqb, Option, Some, None}
 use Prim.Native.Char.{code}
 use Prim.Native.String.{String, [] as none, ◌∷◌ as ◌then◌}
 
@@ -19,6 +19,10 @@ place_in (x ∷ xs) b = cond (eqb b x) 0 (suc (place_in xs b))
 -- the number of a digit is its place in the table; 16 for a byte that is no digit
 unfoldable pub digit_number : ℕ → ℕ
 digit_number b = place_in hex_digits b
+
+-- the same of a byte that may be none
+unfoldable pub digit_in : ℕ → Option ℕ
+digit_in b = cond (ltb (digit_number b) 16) (Some (digit_number b)) None
 
 unfoldable pub all_digits : List ℕ → Bool
 all_digits [] = true

@@ -2,17 +2,16 @@
 #![tactic(auto)]
 
 ghost use Rattle.std.specs.Prelude.{◌≡◌};
-ghost use Rattle.hex_digits.specs.Hex.{digit_number};
+ghost use Rattle.hex_digits.specs.Hex.{digit_in};
 
-// The number of a digit; 16 for a byte that is none.
-pub fn digit_number(b: u8) -> u8
-    ensures { result ≡ digit_number b }
+// The number of a digit, if the byte is one.
+#[tactic(auto, using(crate::proofs::Runs::digit_runs))]
+pub fn digit_number(b: u8) -> Option<u8>
+    ensures { result ≡ digit_in b }
 {
-    if (b'0' <= b) & (b <= b'9') {
-        return b - b'0';
+    match b {
+        b'0'..=b'9' => Some(b - b'0'),
+        b'A'..=b'F' => Some(b - b'A' + 10),
+        _ => None,
     }
-    if (b'A' <= b) & (b <= b'F') {
-        return b - b'A' + 10;
-    }
-    16
 }

@@ -4,7 +4,6 @@
 ghost use Rattle.std.specs.Prelude.{◌≡◌, ◌+◌, ◌≤◌, cond, ◌++◌, length};
 ghost use Rattle.machine.specs.Codes.{unknown_label_set};
 ghost use Rattle.hex_digits.specs.Hex.{bytes, digits};
-ghost use Rattle.eight.specs.Written.{bytes_of};
 ghost use Rattle.output.specs.Wrote.{Wrote};
 ghost use Rattle.logline.specs.Labels.{english, german, english_set, is_set, label_in, label_of};
 ghost use Rattle.logline.specs.LogLine.{numbers, refusing, line_in};
@@ -20,198 +19,130 @@ pub const ENGLISH: u32 = 0;
 // How many label sets there are.
 const SETS: u32 = 2;
 
-// The digits of zero, two and eight of them, in bytes.
-const TWO_ZEROS: u64 = 0x3030;
-
-const EIGHT_ZEROS: u64 = 0x3030_3030_3030_3030;
-
-// In four bytes none, two zeros and a space.
-const SPACE_AND_ZEROS: u64 = 0x2030_3000;
-
 // Whether a number is that of a label set.
+#[tactic(auto, unfolding(crate::specs::Labels::label_sets, crate::specs::Labels::is_set))]
 pub fn is_set(set: u32) -> bool
     ensures { result ≡ is_set set }
 {
     set < SETS
 }
 
-// Writes the lowest `count` bytes of a number, the lowest first, and answers the place past them.
-fn put_bytes(out: &mut [u8], at: usize, count: usize, bytes: u64) -> usize
-    requires { at + count ≤ length out.old }
-    ensures { (result ≡ at + count) × Wrote out.old at (bytes_of count bytes) result out.new }
-{
-    let mut p = at;
-    let mut n = count;
-    let mut left = bytes;
-    while 0 < n {
-        out[p] = (left % 256) as u8;
-        p += 1;
-        n -= 1;
-        left = left / 256;
-    }
-    p
-}
-
+// Writes some bytes, and answers the place past them.
 fn put(out: &mut [u8], at: usize, src: &[u8]) -> usize
     requires { at + length src.now ≤ length out.old }
     ensures { Wrote out.old at src.now result out.new }
 {
-    let mut i = 0;
-    while i < src.len() {
-        out[at + i] = src[i];
-        i += 1;
-    }
-    at + i
+    let end = at + src.len();
+    out[at..end].copy_from_slice(src);
+    end
 }
 
-// Each label is a byte string in the arm of its code; a function has eight at most, since its check grows faster than its arms.
-
-// The English labels of the codes from 16 on.
-fn put_english_16(out: &mut [u8], at: usize, code: u32) -> usize
-    requires { (at + 18 ≤ length out.old) × (16 ≤ code) }
-    ensures { Wrote out.old at (label_in english code) result out.new }
+// The English label of a code; none of a number that is no code.
+#[tactic(auto, unfolding(crate::specs::Labels::english, crate::specs::Labels::label_in))]
+fn english(code: u32) -> &'static [u8]
+    ensures { result.now ≡ label_in english code }
 {
     match code {
-        16 => put(out, at, b"not a HEX record"),
-        17 => put(out, at, b"wrong sum"),
-        18 => put(out, at, b"outside the window"),
-        19 => put(out, at, b"no end or not last"),
-        24 => put(out, at, b"output too short"),
-        _ => at,
+        0 => b"done",
+        1 => b"state out of form",
+        2 => b"window out of form",
+        3 => b"unknown step",
+        4 => b"unknown offset",
+        5 => b"bad enables",
+        6 => b"part FIFO access",
+        7 => b"read-only register",
+        8 => b"FIFO full or empty",
+        9 => b"transfer off",
+        10 => b"count is zero",
+        11 => b"abort stands",
+        12 => b"FIFO not ready",
+        13 => b"no memory there",
+        14 => b"not a frame line",
+        15 => b"unknown label set",
+        16 => b"not a HEX record",
+        17 => b"wrong sum",
+        18 => b"outside the window",
+        19 => b"no end or not last",
+        24 => b"output too short",
+        _ => b"",
     }
 }
 
-// The English labels of the codes from 8 on.
-fn put_english_8(out: &mut [u8], at: usize, code: u32) -> usize
-    requires { (at + 18 ≤ length out.old) × (8 ≤ code) }
-    ensures { Wrote out.old at (label_in english code) result out.new }
+// The German label of a code; none of a number that is no code.
+#[tactic(auto, unfolding(crate::specs::Labels::german, crate::specs::Labels::label_in))]
+fn german(code: u32) -> &'static [u8]
+    ensures { result.now ≡ label_in german code }
 {
     match code {
-        8 => put(out, at, b"FIFO full or empty"),
-        9 => put(out, at, b"transfer off"),
-        10 => put(out, at, b"count is zero"),
-        11 => put(out, at, b"abort stands"),
-        12 => put(out, at, b"FIFO not ready"),
-        13 => put(out, at, b"no memory there"),
-        14 => put(out, at, b"not a frame line"),
-        15 => put(out, at, b"unknown label set"),
-        _ => put_english_16(out, at, code),
+        0 => b"erledigt",
+        1 => b"Zustand ungueltig",
+        2 => b"Fenster ungueltig",
+        3 => b"Schritt unbekannt",
+        4 => b"Offset unbekannt",
+        5 => b"Freigabe ungueltig",
+        6 => b"FIFO-Teilzugriff",
+        7 => b"nur lesbar",
+        8 => b"FIFO voll/leer",
+        9 => b"Transfer aus",
+        10 => b"Zaehler ist null",
+        11 => b"Abbruch steht an",
+        12 => b"FIFO nicht bereit",
+        13 => b"kein Speicher dort",
+        14 => b"keine Rahmenzeile",
+        15 => b"Textsatz unbekannt",
+        16 => b"kein HEX-Satz",
+        17 => b"Summe falsch",
+        18 => b"nicht im Fenster",
+        19 => b"Ende fehlt/frueh",
+        24 => b"Ausgabe zu kurz",
+        _ => b"",
     }
 }
 
-// The English labels.
-fn put_english(out: &mut [u8], at: usize, code: u32) -> usize
-    requires { at + 18 ≤ length out.old }
-    ensures { Wrote out.old at (label_in english code) result out.new }
-{
-    match code {
-        0 => put(out, at, b"done"),
-        1 => put(out, at, b"state out of form"),
-        2 => put(out, at, b"window out of form"),
-        3 => put(out, at, b"unknown step"),
-        4 => put(out, at, b"unknown offset"),
-        5 => put(out, at, b"bad enables"),
-        6 => put(out, at, b"part FIFO access"),
-        7 => put(out, at, b"read-only register"),
-        _ => put_english_8(out, at, code),
-    }
-}
-
-// The German labels of the codes from 16 on.
-fn put_german_16(out: &mut [u8], at: usize, code: u32) -> usize
-    requires { (at + 18 ≤ length out.old) × (16 ≤ code) }
-    ensures { Wrote out.old at (label_in german code) result out.new }
-{
-    match code {
-        16 => put(out, at, b"kein HEX-Satz"),
-        17 => put(out, at, b"Summe falsch"),
-        18 => put(out, at, b"nicht im Fenster"),
-        19 => put(out, at, b"Ende fehlt/frueh"),
-        24 => put(out, at, b"Ausgabe zu kurz"),
-        _ => at,
-    }
-}
-
-// The German labels of the codes from 8 on.
-fn put_german_8(out: &mut [u8], at: usize, code: u32) -> usize
-    requires { (at + 18 ≤ length out.old) × (8 ≤ code) }
-    ensures { Wrote out.old at (label_in german code) result out.new }
-{
-    match code {
-        8 => put(out, at, b"FIFO voll/leer"),
-        9 => put(out, at, b"Transfer aus"),
-        10 => put(out, at, b"Zaehler ist null"),
-        11 => put(out, at, b"Abbruch steht an"),
-        12 => put(out, at, b"FIFO nicht bereit"),
-        13 => put(out, at, b"kein Speicher dort"),
-        14 => put(out, at, b"keine Rahmenzeile"),
-        15 => put(out, at, b"Textsatz unbekannt"),
-        _ => put_german_16(out, at, code),
-    }
-}
-
-// The German labels.
-fn put_german(out: &mut [u8], at: usize, code: u32) -> usize
-    requires { at + 18 ≤ length out.old }
-    ensures { Wrote out.old at (label_in german code) result out.new }
-{
-    match code {
-        0 => put(out, at, b"erledigt"),
-        1 => put(out, at, b"Zustand ungueltig"),
-        2 => put(out, at, b"Fenster ungueltig"),
-        3 => put(out, at, b"Schritt unbekannt"),
-        4 => put(out, at, b"Offset unbekannt"),
-        5 => put(out, at, b"Freigabe ungueltig"),
-        6 => put(out, at, b"FIFO-Teilzugriff"),
-        7 => put(out, at, b"nur lesbar"),
-        _ => put_german_8(out, at, code),
-    }
-}
-
-// Writes the label that a set has for a code, and answers the place past it.
-fn put_label(out: &mut [u8], at: usize, code: u32, set: u32) -> usize
-    requires { at + 18 ≤ length out.old }
-    ensures { Wrote out.old at (label_of set code) result out.new }
+// The label that a set has for a code; none of a number that is no set.
+#[tactic(auto, using(crate::proofs::Labels::no_set), unfolding(crate::specs::Labels::label_sets, crate::specs::Labels::label_of))]
+fn label(set: u32, code: u32) -> &'static [u8]
+    ensures { result.now ≡ label_of set code }
 {
     match set {
-        0 => put_english(out, at, code),
-        1 => put_german(out, at, code),
-        _ => at,
+        0 => english(code),
+        1 => german(code),
+        _ => b"",
     }
 }
 
-fn one_if(on: bool, one: u64) -> u64
-    ensures { (result ≡ cond on one 0) × (result ≤ one) }
-{
-    if on { one } else { 0 }
-}
-
-// The two digits of a code, in the lowest two bytes.
-fn code_digits(code: u32) -> u64
-    ensures { bytes_of 2 result ≡ digits 2 code }
+// The two digits of a code.
+#[tactic(auto, unfolding(hex_digits::specs::Hex::hex_digits, hex_digits::specs::Hex::digit_of, hex_digits::specs::Hex::digits))]
+fn code_digits(code: u32) -> [u8; 2]
+    ensures { result ≡ digits 2 code }
 {
     if code == 0 {
-        return TWO_ZEROS;
+        return *b"00";
     }
-    eight::digit(code / 16) as u64 + eight::digit(code) as u64 * 0x100
+    [eight::digit(code / 16), eight::digit(code)]
 }
 
-// The digits of the enables and of both lines, and a space, in the lowest four bytes.
-fn last_digits(a: Answer) -> u64
-    ensures { bytes_of 4 result ≡ digits 1 a.enables ++ digits 1 (cond a.line 1 0) ++ digits 1 (cond a.addon_line 1 0) ++ bytes " " }
+// The digits of the enables and of both lines, and a space.
+#[tactic(auto, using(crate::proofs::Digits::line_digit), unfolding(hex_digits::specs::Hex::digits))]
+fn last_digits(a: Answer) -> [u8; 4]
+    ensures { result ≡ digits 1 a.enables ++ digits 1 (cond a.line 1 0) ++ digits 1 (cond a.addon_line 1 0) ++ bytes " " }
 {
-    let line = one_if(a.line, 0x100);
-    let addon_line = one_if(a.addon_line, 0x1_0000);
-    eight::digit(a.enables) as u64 + line + addon_line + SPACE_AND_ZEROS
+    [
+        eight::digit(a.enables),
+        b'0' + u8::from(a.line),
+        b'0' + u8::from(a.addon_line),
+        b' ',
+    ]
 }
 
 // The eight digits of a number that mostly is zero. (The branch also keeps the compiler from joining two numbers in vectors, whose
 // constants would take more read-only room than a table of digits.)
-fn mostly_zeros(x: u32) -> u64
-    ensures { bytes_of 8 result ≡ digits 8 x }
+#[tactic(auto, unfolding(hex_digits::specs::Hex::hex_digits, hex_digits::specs::Hex::digit_of, hex_digits::specs::Hex::digits))]
+fn mostly_zeros(x: u32) -> [u8; 8]
+    ensures { result ≡ digits 8 x }
 {
     if x == 0 {
-        return EIGHT_ZEROS;
+        return *b"00000000";
     }
     eight::digits(x)
 }
@@ -225,10 +156,10 @@ fn put_numbers(out: &mut [u8], at: usize, a: Answer) -> usize
     let address = mostly_zeros(a.address);
     let value = eight::digits(a.value);
     let last = last_digits(a);
-    let p1 = put_bytes(out, at, 2, code);
-    let p2 = put_bytes(out, p1, 8, address);
-    let p3 = put_bytes(out, p2, 8, value);
-    put_bytes(out, p3, 4, last)
+    let p1 = put(out, at, &code);
+    let p2 = put(out, p1, &address);
+    let p3 = put(out, p2, &value);
+    put(out, p3, &last)
 }
 
 // Writes the log line of an answer at a place, with the label of a set, and answers the place past it. Where there is no room
@@ -237,14 +168,11 @@ pub fn put_line(out: &mut [u8], at: usize, a: Answer, set: u32) -> usize
     ensures { Wrote out.old at (line_in set out.old at a) result out.new }
 {
     let n = out.len();
-    if n < LINE_ROOM {
-        return at;
-    }
-    if n - LINE_ROOM < at {
+    if n < LINE_ROOM || n - LINE_ROOM < at {
         return at;
     }
     let p = put_numbers(out, at, a);
-    let end = put_label(out, p, a.code, set);
+    let end = put(out, p, label(set, a.code));
     out[end] = b'\n';
     end + 1
 }
@@ -268,12 +196,7 @@ pub fn put_refusal(out: &mut [u8], code: u32, set: u32) -> usize
 {
     let a = Answer {
         code,
-        address: 0,
-        value: 0,
-        enables: 0,
-        line: false,
-        addon_line: false,
-        changed: 0,
+        ..Answer::default()
     };
     put_line(out, 0, a, set)
 }

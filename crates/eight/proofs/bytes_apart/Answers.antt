@@ -5,5 +5,6 @@ use Rattle.eight.proofs.bytes_apart.Goals as goal
 
 pub returns : goal.returns
 returns c =
-    let w = c.args.w in
-    bytes-picked (w / 0x100_0000) (w / 0x1_0000 % 256) (w / 0x100 % 256) (w % 256) (omega (arith, c.requires), (omega arith, (omega arith, (omega arith, tt)))) _ (halves_apart w (omega (arith, c.requires)))
+    let x = c.args.x in
+    rw c.from-w.ensures
+    (bytes-picked (x / 0x100_0000) (x / 0x1_0000 % 256) (x / 0x100 % 256) (x % 256) (omega arith, (omega arith, (omega arith, (omega arith, tt)))) _ (halves_apart x (omega arith)))

@@ -1,6 +1,6 @@
 use Prim.Native.Nat.{◌/◌, ◌%◌}
 use native.Mathlib.Omega.{arith}
-use Rattle.eight.proofs.Written.{apart-small, eight-at}
+use Rattle.eight.proofs.Written.{apart-small, eight_at}
 use Rattle.eight.proofs.digits.Goals as goal
 
 pub numbers_apart-requires : goal.numbers_apart-requires
@@ -11,6 +11,6 @@ numbers_apart-requires c =
 pub returns : goal.returns
 returns c =
     let x = c.args.x in
-    rw c.texts_at.ensures
-    (eight-at x c.numbers_apart.result
+    rw (c.to_le_bytes.ensures, c.texts_at.ensures)
+    (eight_at x c.numbers_apart.result
     (c.numbers_apart.ensures.1 (x / 0x100_0000) (x / 0x1_0000 % 256) (x / 0x100 % 256) (x % 256) (omega arith, (omega arith, (omega arith, (omega arith, tt)))) c.bytes_apart.ensures))
