@@ -1,7 +1,7 @@
 // The control registers, MCSR of PCI and AGCSTS of the Add-On: what MCSR keeps, and the status that both show.
 #![tactic(auto)]
 
-ghost use Rattle.std.specs.Prelude.{◌≡◌, cond, List, ℕ, length};
+ghost use Rattle.std.specs.Prelude.{◌≡◌, ◌<◌, cond, List, ℕ, length};
 ghost use Rattle.machine.specs.Access.{access_of};
 ghost use Rattle.machine.specs.Mcsr.{fifo_status, mcsr_after, mcsr_read, agcsts_read};
 ghost use Rattle.bank.specs.Bank.{state_in};
@@ -48,7 +48,8 @@ fn flag(on: bool, one: u32) -> u32
 // The status of the FIFO that a side feeds, by its fill.
 #[tactic(auto, unfolding(machine::specs::Mcsr::fifo_status, machine::specs::Words::flag))]
 fn fifo_status<S: Side>(fill: WordFill) -> u32
-    ensures { (words : List ℕ) → length words ≡ fill.0 → result ≡ fifo_status S.side words }
+    ensures three_bits { result < 8 }
+    ensures status { (words : List ℕ) → length words ≡ fill.0 → result ≡ fifo_status S.side words }
 {
     flag(fifo::is_empty(fill), EMPTY)
         | flag(fifo::has_amount::<S>(fill, true), FOUR)
@@ -56,6 +57,7 @@ fn fifo_status<S: Side>(fill: WordFill) -> u32
 }
 
 // MCSR as it is read.
+#[tactic(auto, using(fifo::proofs::Ring::length_from), unfolding(bank::specs::Bank::state_in, machine::specs::Mcsr::mcsr_read, machine::specs::Mcsr::mcsr_status, machine::specs::Words::flag))]
 pub fn mcsr_read(b: Bank) -> u32
     ensures { (mail pci addon : List ℕ) → result ≡ mcsr_read (state_in b mail pci addon) }
 {
@@ -67,6 +69,7 @@ pub fn mcsr_read(b: Bank) -> u32
 }
 
 // AGCSTS as it is read: the two FIFOs the other way round.
+#[tactic(auto, using(fifo::proofs::Ring::length_from), unfolding(bank::specs::Bank::state_in, machine::specs::Mcsr::agcsts_read))]
 pub fn agcsts_read(b: Bank) -> u32
     ensures { (mail pci addon : List ℕ) → result ≡ agcsts_read (state_in b mail pci addon) }
 {
