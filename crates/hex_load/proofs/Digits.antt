@@ -15,6 +15,7 @@ use Rattle.hex_digits.specs.Hex.{digit_number, all_digits, number_from, number}
 use Rattle.hex_digits.proofs.Numbers.{all_append, number_lt}
 use Rattle.eight.specs.Packed.{number_if_digits}
 use Rattle.records.specs.Record.{total}
+use Rattle.records.specs.Window.{window_bytes}
 use Rattle.records.specs.Load.{bytes_in}
 use Rattle.records.proofs.Bytes.{total_append}
 use Rattle.hex_load.specs.Reads.{sum_of}
@@ -163,21 +164,26 @@ module _ (s : List ℕ) where
 
 -- ---- sums
 
-four_sum : (a b c d x : ℕ) → a < 256 → b < 256 → c < 256 → d < 256 → x ≡ a + 256 * b + 65536 * c + 16777216 * d → total (bytes_high_first 4 x) % 256 ≡ (d + (c + (b + (a + 0)))) % 256
-unfolding total
+four_sum : (a b c d x : ℕ) → a < 256 → b < 256 → c < 256 → d < 256 → x ≡ a + 256 * b + 65536 * c + 16777216 * d → total (window_bytes (x ∷ [])) % 256 ≡ (d + (c + (b + (a + 0)))) % 256
+unfolding total window_bytes
 four_sum a b c d x h k l m is =
     let second : x / 256 ≡ b + 256 * c + 65536 * d = omega arith in
     let third : x / 65536 ≡ c + 256 * d = omega arith in
     let fourth : x / 16777216 ≡ d = omega arith in
     rw (second, third, fourth) (omega arith)
 
+-- the sum is the same in either order
+pub any_order : (w : ℕ) → total (window_bytes (w ∷ [])) % 256 ≡ total (bytes_high_first 4 w) % 256
+unfolding total window_bytes
+any_order w = omega arith
+
 -- the lowest bytes of a number, shifted to the highest of four
-pub low_sum : (m w : ℕ) → m ≤ 4 → w < 2 ^ 32 → total (bytes_high_first 4 (w * 2 ^ (8 * (4 - m)) % 4294967296)) % 256 ≡ total (bytes_high_first m w) % 256
-unfolding total
+pub low_sum : (m w : ℕ) → m ≤ 4 → w < 2 ^ 32 → total (window_bytes ((w * 2 ^ (8 * (4 - m)) % 4294967296) ∷ [])) % 256 ≡ total (bytes_high_first m w) % 256
+unfolding total window_bytes
 low_sum m w h low = by m h (w % 256) (w / 256 % 256) (w / 65536 % 256) (w / 16777216 % 256) (omega arith) (omega arith) (omega arith) (omega arith) refl refl refl refl
   where
     by : (m : ℕ) → m ≤ 4 → (a b c d : ℕ) → a < 256 → b < 256 → c < 256 → d < 256 → w % 256 ≡ a → w / 256 % 256 ≡ b → w / 65536 % 256 ≡ c → w / 16777216 % 256 ≡ d
-        → total (bytes_high_first 4 (w * 2 ^ (8 * (4 - m)) % 4294967296)) % 256 ≡ total (bytes_high_first m w) % 256
+        → total (window_bytes ((w * 2 ^ (8 * (4 - m)) % 4294967296) ∷ [])) % 256 ≡ total (bytes_high_first m w) % 256
     by zero h a b c d i j k l e f g q = four_sum 0 0 0 0 _ (omega arith) (omega arith) (omega arith) (omega arith) (omega arith)
     by (suc zero) h a b c d i j k l e f g q = four_sum 0 0 0 a _ (omega arith) (omega arith) (omega arith) i (omega arith) ∙ rw e
     by (suc (suc zero)) h a b c d i j k l e f g q = four_sum 0 0 a b _ (omega arith) (omega arith) i j (omega arith) ∙ rw (e, f)
@@ -200,7 +206,7 @@ module _ (d : List ℕ) (first : all_digits (take 8 d) ≡ true) where
 
 -- eight digits more
 pub piece : (d : List ℕ) (i s : ℕ) → 0 < i → 8 * i + 8 ≤ length d → Some s ≡ sum_of (take (8 * (i - 1)) (drop 8 d)) → all_digits (take 8 (drop (8 * i) d)) ≡ true
-    → Some ((s + total (bytes_high_first 4 (number (take 8 (drop (8 * i) d)))) % 256) % 256) ≡ sum_of (take (8 * (i + 1 - 1)) (drop 8 d))
+    → Some ((s + total (window_bytes (number (take 8 (drop (8 * i) d)) ∷ [])) % 256) % 256) ≡ sum_of (take (8 * (i + 1 - 1)) (drop 8 d))
 piece d i s some fits first all =
     let xs = take (8 * (i - 1)) (drop 8 d) in
     let ys = take 8 (drop (8 * i) d) in
@@ -208,11 +214,13 @@ piece d i s some fits first all =
     let more : 8 * (i + 1 - 1) ≡ 8 * (i - 1) + 8 = omega arith in
     let past : 8 + 8 * (i - 1) ≡ 8 * i = omega arith in
     let parts : take (8 * (i + 1 - 1)) (drop 8 d) ≡ xs ++ ys = rw (more, take-add (8 * (i - 1)) 8 (drop 8 d), drop-drop (8 * (i - 1)) 8 d, past) in
-    rw (parts, low_read 4 0 ys (there 8 (8 * i) d fits) all) (sum_more (4 * (i - 1)) s xs ys even first all)
+    let w = number ys in
+    let turned : total (window_bytes (w ∷ [])) % 256 ≡ total (bytes_high_first 4 w) % 256 = any_order w in
+    rw (parts, turned, low_read 4 0 ys (there 8 (8 * i) d fits) all) (sum_more (4 * (i - 1)) s xs ys even first all)
 
 -- the digits that are left behind whole eights
 pub last_piece : (d : List ℕ) (i s : ℕ) → 0 < i → i ≡ length d / 8 → length d % 2 ≡ 0 → 0 < length d % 8 → Some s ≡ sum_of (take (8 * (i - 1)) (drop 8 d)) → all_digits (take 8 (drop (length d - 8) d)) ≡ true
-    → Some ((s + total (bytes_high_first 4 (number (take 8 (drop (length d - 8) d)) * 2 ^ (32 - 4 * (length d % 8)) % 4294967296)) % 256) % 256) ≡ sum_of (drop 8 d)
+    → Some ((s + total (window_bytes ((number (take 8 (drop (length d - 8) d)) * 2 ^ (32 - 4 * (length d % 8)) % 4294967296) ∷ [])) % 256) % 256) ≡ sum_of (drop 8 d)
 last_piece d i s some is even left first all =
     let m = length d % 8 / 2 in
     let xs = take (8 * (i - 1)) (drop 8 d) in

@@ -16,10 +16,8 @@ ghost use Rattle.std.specs.Int.{bytes_high_first};
 mod span;
 
 use machine::Refusal;
+use records::{SEGMENT, byte_sum};
 use span::Span;
-
-// How many addresses have the same upper bits.
-const SEGMENT: u32 = 0x1_0000;
 
 // The fewest bytes of a record: a colon, ten digits and LF.
 const RECORD_LEAST: usize = 12;
@@ -40,14 +38,6 @@ fn digits_at(text: &[u8], i: usize) -> u32
     ensures { result ≡ number (take 8 (drop i text.now)) }
 {
     word_at(text, i).unwrap()
-}
-
-// The sum of a number's four bytes, modulo 256.
-fn byte_sum(w: u32) -> u8
-    ensures { result ≡ total (bytes_high_first 4 w) % 256 }
-{
-    let [a, b, c, d] = w.to_be_bytes();
-    a.wrapping_add(b).wrapping_add(c).wrapping_add(d)
 }
 
 // The sum of the bytes that what stands behind the first eight digits stands for, modulo 256, if it is digits.

@@ -1,4 +1,4 @@
-use Rattle.std.proofs.Common.{◌≡◌, refl, sym, ◌∙◌, arith, ◌<◌, length, le_refl, true≢false}
+use Rattle.std.proofs.Common.{◌≡◌, sym, ◌∙◌, arith, ◌<◌, length, true≢false}
 use borrow.Author.Tests.{eqb-true, eqb-false, eq-eqb}
 use Rattle.records.specs.Load.{kind_in, rest_of, code_from}
 use Rattle.hex_load.specs.Reads.{kind_number}

@@ -1,4 +1,4 @@
-use Rattle.std.proofs.Common.{◌≡◌, sym, ◌∙◌, ℕ, List, false, ◌<◌, length, get_or, Result, Err, rules}
+use Rattle.std.proofs.Common.{◌≡◌, ◌∙◌, ℕ, List, false, ◌<◌, length, get_or, Result, Err, rules}
 use borrow.Author.Tests.{ne_eqb}
 use Rattle.machine.specs.declared.codes.Refusal.{Refusal}
 use Rattle.machine.specs.declared.codes.Refusal.TheVariants.{WindowOutOfForm}

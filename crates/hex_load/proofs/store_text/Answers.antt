@@ -1,4 +1,4 @@
-use Rattle.std.proofs.Common.{refl, sym, ◌∙◌, arith, ◌<◌, length, le_refl, Some}
+use Rattle.std.proofs.Common.{sym, ◌∙◌, arith, ◌<◌, length, Some}
 use borrow.Author.Tests.{eqb-true, eqb-false}
 use Rattle.records.specs.Load.{stored}
 use Rattle.records.proofs.Promises.{said_none}
