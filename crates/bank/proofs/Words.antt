@@ -1,18 +1,21 @@
 -- Words, some of which are stored anew: the state that they then stand for.
-use Prim.Native.Nat.{ℕ, zero, suc, ◌+◌, ◌-◌, ◌≤◌, ◌<◌}
+use Prim.Native.Nat.{ℕ, ◌+◌, ◌-◌, ◌≤◌, ◌<◌}
 use mathlib.Core.Path.{◌≡◌, refl, sym, ap, ◌∙◌}
 use mathlib.Core.Bool.{Bool, true, false, cond, ◌&&◌}
-use mathlib.Core.List.{List, [], ◌∷◌}
+use mathlib.Core.List.{List, [], ◌∷◌, ◌++◌}
 use native.Mathlib.Decide.{ℕ_discrete}
 use native.Mathlib.Omega.{arith}
+use Rattle.std.proofs.lemmas.List.{take-take, drop-take, drop_all, take-append-le, drop-append-le, get_or-drop, length-append}
+use Rattle.std.proofs.lemmas.Slice.{drop-append-drop}
+use mir.Val.{bool_byte}
 use lib.Dec.{eqb, leb, ltb}
 use lib.ListN.{length, get_or, set, take, drop, length-set, length-drop}
-use lib.Seq.{get_or-set_same, get_or-set_other, take-set-le, take-set-lt, drop-set-lt, drop-set-add, drop-cons, take_all, length-take-le}
+use lib.Seq.{get_or-append_right, get_or-set_same, get_or-set_other, take-set-le, take-set-lt, drop-set-lt, drop-set-add, take_all, length-take-le}
 use borrow.Author.Tests.{eq-eqb, ne_eqb, leb-true, ltb-true}
 use Rattle.laws.proofs.Tests.{and_left, and_right}
 use Rattle.fifo.specs.Ring.{from}
 use Rattle.bank.specs.Bank.{state_in}
-use Rattle.bank.specs.Words.{part, mail_in, pci_in, addon_in, number_in, one_if, is_right, bank_by, state_of_words, rights_by, has_rights, is_controller, ZerosAreReset}
+use Rattle.bank.specs.Words.{part, mail_in, pci_in, addon_in, with_run, number_in, is_right, bank_by, state_of_words, rights_by, has_rights, is_controller, ZerosAreReset}
 
 pub zeros_are_reset : ZerosAreReset
 unfolding is_controller state_in from
@@ -72,16 +75,8 @@ module _ {l mail pci addon : List ℕ} {n : ℕ → ℕ} (s : Stand l mail pci a
         intcsr = at 25 refl i;
         mcsr = at 26 refl i;
         aint = at 27 refl i;
-        pci_address = at 28 refl i;
-        pci_count = record { 0 = at 29 refl i };
-        pci_head = at 30 refl i;
-        pci_fill = record { 0 = at 31 refl i };
-        addon_address = at 32 refl i;
-        addon_count = record { 0 = at 33 refl i };
-        addon_head = at 34 refl i;
-        addon_fill = record { 0 = at 35 refl i };
-        pci_right = is_right (at 36 refl i);
-        addon_right = is_right (at 37 refl i);
+        from_pci = record { address = at 28 refl i; count = record { 0 = at 29 refl i }; head = at 30 refl i; fill = record { 0 = at 31 refl i }; right = is_right (at 36 refl i) };
+        from_addon = record { address = at 32 refl i; count = record { 0 = at 33 refl i }; head = at 34 refl i; fill = record { 0 = at 35 refl i }; right = is_right (at 37 refl i) };
       }
 
   pub stand-rights : has_rights l ≡ rights_by n
@@ -156,23 +151,76 @@ stand_numbers {l = l} {mail = mail} {pci = pci} {addon = addon} {n = n} (p ∷ p
 
 -- ---- a right as a word
 
-pub right_word : (b : Bool) → is_right (one_if b) ≡ b
+pub right_word : (b : Bool) → is_right (bool_byte b) ≡ b
 right_word true = refl
 right_word false = refl
 
-pub right_small : (b : Bool) → ltb (one_if b) 2 ≡ true
+pub right_small : (b : Bool) → ltb (bool_byte b) 2 ≡ true
 right_small true = refl
 right_small false = refl
 
--- ---- words read one by one
+-- ---- a run of eight words in place of those that stood there
 
-abbrev pub run : ℕ → ℕ → List ℕ → List ℕ
-run a zero l = []
-run a (suc m) l = get_or l a 0 ∷ run (suc a) m l
+module _ (b : ℕ) (run l : List ℕ) (long : length run ≡ 8) (inside : b ≤ length l) where
+  head_long : length (take b l) ≡ b
+  head_long = length-take-le b l inside
 
-pub part_run : (a m : ℕ) (l : List ℕ) → a + m ≤ length l → part a m l ≡ run a m l
-part_run a zero l h = refl
-part_run a (suc m) l h = ap (take (suc m)) (drop-cons l a 0 (omega arith)) ∙ ap (λ (t : List ℕ). get_or l a 0 ∷ t) (part_run (suc a) m l (omega arith))
+  front_long : length (take b l ++ run) ≡ b + 8
+  front_long = length-append (take b l) run ∙ omega (arith, head_long, long)
 
-pub whole_run : (l : List ℕ) → length l ≡ 8 → run 0 8 l ≡ l
-whole_run l e = sym (part_run 0 8 l (omega (arith, e))) ∙ take_all 8 l (omega (arith, e))
+  run_in : part b 8 (with_run b run l) ≡ run
+  run_in =
+      ap (take 8) (drop-append-le b (take b l ++ run) (drop (b + 8) l) (omega (arith, front_long)) ∙ ap (λ (t : List ℕ). t ++ drop (b + 8) l) (drop-append-le b (take b l) run (omega (arith, head_long)) ∙ ap (λ (t : List ℕ). t ++ run) (drop_all b (take b l) (omega (arith, head_long)))))
+      ∙ take-append-le 8 run (drop (b + 8) l) (omega (arith, long)) ∙ take_all 8 run (omega (arith, long))
+
+  run_before : (a m : ℕ) → a + m ≤ b → part a m (with_run b run l) ≡ part a m l
+  run_before a m h =
+      sym (drop-take a m (with_run b run l))
+      ∙ ap (drop a) (take-append-le (a + m) (take b l ++ run) (drop (b + 8) l) (omega (arith, front_long)) ∙ take-append-le (a + m) (take b l) run (omega (arith, head_long)) ∙ take-take (a + m) b l h)
+      ∙ drop-take a m l
+
+  run_behind : (a m : ℕ) → b + 8 ≤ a → part a m (with_run b run l) ≡ part a m l
+  run_behind a m h = ap (take m) (drop-append-drop (b + 8) l (take b l ++ run) a h front_long)
+
+  number_behind : (j : ℕ) → b + 8 ≤ j → number_in (with_run b run l) j ≡ number_in l j
+  number_behind j h = get_or-append_right (take b l ++ run) (drop (b + 8) l) j 0 (omega (arith, front_long)) ∙ get_or-drop (b + 8) l (j - length (take b l ++ run)) 0 ∙ ap (λ (k : ℕ). get_or l k 0) (omega (arith, front_long))
+
+  run_long : b + 8 ≤ length l → length (with_run b run l) ≡ length l
+  run_long h = length-append (take b l ++ run) (drop (b + 8) l) ∙ omega (arith, front_long, length-drop (b + 8) l)
+
+module _ {l mail pcis addons : List ℕ} {n : ℕ → ℕ} (s : Stand l mail pcis addons n) (run : List ℕ) (long : length run ≡ 8) where
+  within : (b : ℕ) → b ≤ 38 → b ≤ length l
+  within b h = omega (arith, h, s.long)
+
+  pub stand-mails : Stand (with_run 0 run l) run pcis addons n
+  stand-mails =
+      let h = within 0 (omega arith) in
+      record {
+        long = run_long 0 run l long h (within 8 (omega arith)) ∙ s.long;
+        mails = run_in 0 run l long h;
+        pcis = run_behind 0 run l long h 8 8 (omega arith) ∙ s.pcis;
+        addons = run_behind 0 run l long h 16 8 (omega arith) ∙ s.addons;
+        numbers = λ j e. number_behind 0 run l long h j (omega (arith, e)) ∙ s.numbers j e;
+      }
+
+  pub stand-pcis : Stand (with_run 8 run l) mail run addons n
+  stand-pcis =
+      let h = within 8 (omega arith) in
+      record {
+        long = run_long 8 run l long h (within 16 (omega arith)) ∙ s.long;
+        mails = run_before 8 run l long h 0 8 (omega arith) ∙ s.mails;
+        pcis = run_in 8 run l long h;
+        addons = run_behind 8 run l long h 16 8 (omega arith) ∙ s.addons;
+        numbers = λ j e. number_behind 8 run l long h j (omega (arith, e)) ∙ s.numbers j e;
+      }
+
+  pub stand-addons : Stand (with_run 16 run l) mail pcis run n
+  stand-addons =
+      let h = within 16 (omega arith) in
+      record {
+        long = run_long 16 run l long h (within 24 (omega arith)) ∙ s.long;
+        mails = run_before 16 run l long h 0 8 (omega arith) ∙ s.mails;
+        pcis = run_before 16 run l long h 8 8 (omega arith) ∙ s.pcis;
+        addons = run_in 16 run l long h;
+        numbers = λ j e. number_behind 16 run l long h j (omega (arith, e)) ∙ s.numbers j e;
+      }

@@ -1,2 +1,3 @@
 pub mod Bank
+pub mod Places
 pub mod Words

@@ -1,8 +1,12 @@
 -- A controller as words that stand one after the other: which words stand for one, and for which state.
-use Rattle.std.specs.Prelude.{ℕ, ◌≡◌, Bool, true, not, cond, ◌&&◌, List, eqb, ltb, length, get_or, take, drop, replicate}
+use Rattle.std.specs.Prelude.{ℕ, ◌≡◌, Bool, true, not, cond, ◌&&◌, List, eqb, ltb, length, get_or, set, ◌+◌, ◌++◌, take, drop, replicate}
+use Rattle.machine.specs.Sides.{Side, pci, addon}
 use Rattle.machine.specs.State.{State, reset_state}
 use Rattle.bank.specs.Bank.{state_in}
+use Rattle.bank.specs.Places.{fifo_place, address_place, count_place, head_place, fill_place, right_place}
+use Rattle.controller.specs.declared.Lane.{Lane}
 use Rattle.bank.specs.declared.Bank.{Bank}
+use Rattle.bank.specs.declared.LaneBank.{LaneBank}
 
 -- 8 mailbox words, 8 places of the FIFO from PCI, 8 of the FIFO from the Add-On, 14 numbers
 abbrev pub controller_words : ℕ
@@ -32,6 +36,17 @@ one_if b = cond b 1 0
 abbrev pub is_right : ℕ → Bool
 is_right n = not (eqb n 0)
 
+-- the numbers of the lane that a side feeds
+abbrev pub lane_by : Side → (ℕ → ℕ) → LaneBank
+lane_by side n =
+    record {
+      address = n (address_place side);
+      count = record { 0 = n (count_place side) };
+      head = n (head_place side);
+      fill = record { 0 = n (fill_place side) };
+      right = is_right (n (right_place side));
+    }
+
 -- From place 24 on: the marks, INTCSR, MCSR, AINT; of the lane from PCI the address, the count, the place of the FIFO's front and its fill; of the lane from the
 -- Add-On the same; whether read cycles, and whether write cycles, have the right of a burst.
 abbrev pub bank_by : (ℕ → ℕ) → Bank
@@ -41,17 +56,19 @@ bank_by n =
       intcsr = n 25;
       mcsr = n 26;
       aint = n 27;
-      pci_address = n 28;
-      pci_count = record { 0 = n 29 };
-      pci_head = n 30;
-      pci_fill = record { 0 = n 31 };
-      addon_address = n 32;
-      addon_count = record { 0 = n 33 };
-      addon_head = n 34;
-      addon_fill = record { 0 = n 35 };
-      pci_right = is_right (n 36);
-      addon_right = is_right (n 37);
+      from_pci = lane_by pci n;
+      from_addon = lane_by addon n;
     }
+
+-- words with eight others from a place on
+abbrev pub with_run : ℕ → List ℕ → List ℕ → List ℕ
+with_run at run words = take at words ++ run ++ drop (at + 8) words
+
+-- words with those of a lane in place of the ones that stood there
+abbrev pub with_lane : Side → Lane → List ℕ → List ℕ
+with_lane side l words =
+    set (set (set (set (set (with_run (fifo_place side) l.fifo.words words) (address_place side) l.address) (count_place side) l.count.0) (head_place side) l.fifo.head) (fill_place side) l.fifo.fill.0)
+    (right_place side) (one_if l.right)
 
 abbrev pub bank_in : List ℕ → Bank
 bank_in words = bank_by (number_in words)

@@ -7,42 +7,50 @@ use frame::Framed;
 use logline::ENGLISH;
 use step::Stepped;
 
-// One line, by the form asked for.
-fn answer(c: Controller, memory: &mut [u32], line: &[u8], is_in_place: bool) -> Stepped {
-    if is_in_place {
-        let f = frame::frame(line);
-        if let Framed::Frame(s) = f {
-            return place::step_by_place(c, memory, 0, s);
-        }
+// ---- lines: that at a position, and that after the line at another
+
+fn by_position(text: &[u8], _before: usize, at: usize) -> &[u8] {
+    lines::line_at(text, at)
+}
+
+fn by_reader(text: &[u8], before: usize, at: usize) -> &[u8] {
+    if at == 0 {
+        return lines::line_at(text, 0);
+    }
+    reader::line_after(text, before)
+}
+
+// ---- steps
+
+fn by_value(c: Controller, memory: &mut [u32], line: &[u8]) -> Stepped {
+    frame_log::answer_line(c, memory, 0, line)
+}
+
+fn in_place(c: Controller, memory: &mut [u32], line: &[u8]) -> Stepped {
+    if let Framed::Frame(s) = frame::frame(line) {
+        return place::step_by_place(c, memory, 0, s);
     }
     frame_log::answer_line(c, memory, 0, line)
 }
 
-// The line at a position, by a reader that stands at the line before it, if there is one and it is asked for.
-fn line(text: &[u8], before: usize, at: usize, is_by_reader: bool) -> &[u8] {
-    if is_by_reader & (0 < at) {
-        return reader::line_after(text, before);
-    }
-    lines::line_at(text, at)
-}
-
-fn write_log<R: Print>(rt: &R, text: &[u8], is_in_place: bool) {
+// The log by the forms that are passed.
+fn write_log<R, L, S>(rt: &R, text: &[u8], line: L, step: S)
+where
+    R: Print,
+    L: Fn(&[u8], usize, usize) -> &[u8],
+    S: Fn(Controller, &mut [u32], &[u8]) -> Stepped,
+    requires lines { L.IsAlwaysCallable line }
+    requires steps { S.IsAlwaysCallable step }
+{
     let mut memory = [0u32; 4096];
     let mut out = [0u8; 41];
     let mut c = controller::reset();
     let mut before = 0;
     let mut at = 0;
     while at < text.len() {
-        let t = answer(
-            c,
-            &mut memory,
-            line(text, before, at, is_in_place),
-            is_in_place,
-        );
-        let next = t.controller;
-        let a = t.answer;
-        c = next;
-        let n = logline::put_line(&mut out, 0, a, ENGLISH);
+        let t = step(c, &mut memory, line(text, before, at));
+        c = t.controller;
+        let n = logline::put_line(&mut out, 0, t.answer, ENGLISH);
         let _ = rt.write_all(&out[..n]);
         before = at;
         at = lines::past_line(text, at);
@@ -51,8 +59,7 @@ fn write_log<R: Print>(rt: &R, text: &[u8], is_in_place: bool) {
 
 fn main(rt: HostRuntime) {
     let mut text = [0u8; 65536];
-    let mut reader = rt.reader();
-    let n = streams::read_full(&mut reader, &mut text);
-    write_log(&rt, &text[..n], false);
-    write_log(&rt, &text[..n], true);
+    let n = streams::read_full(&mut rt.reader(), &mut text);
+    write_log(&rt, &text[..n], by_position, by_value);
+    write_log(&rt, &text[..n], by_reader, in_place);
 }

@@ -2,41 +2,22 @@
 #![tactic(auto)]
 
 ghost use Rattle.std.specs.Prelude.{◌≡◌};
-ghost use Rattle.machine.specs.Sides as sides;
 ghost use Rattle.machine.specs.Access.{access_of};
 ghost use Rattle.machine.specs.Commands.{commands, clears_marks, clears_fifo};
 
-use machine::{Step, kinds, offsets};
+use machine::{Addon, Pci, Side, Step, offsets};
 
-// The bits: every mailbox byte is marked empty; the FIFO from the Add-On is emptied, the FIFO from PCI is, which AGCSTS has the other way round.
+// The bit by which every mailbox byte is marked empty; a side's two have those of its FIFOs.
 const MARKS: u32 = 27;
-
-const MCSR_FROM_ADDON: u32 = 26;
-
-const MCSR_FROM_PCI: u32 = 25;
-
-const AGCSTS_FROM_PCI: u32 = 26;
-
-const AGCSTS_FROM_ADDON: u32 = 25;
 
 // The enable of the byte that has them.
 const HIGHEST: u32 = 3;
 
-// Whether the step writes a one to bit k of MCSR, the highest byte enabled.
-fn by_pci(k: u32, s: Step) -> bool
-    ensures { result ≡ commands sides.pci k (access_of s) }
+// Whether the side's party writes a one to bit k of its control register, MCSR or AGCSTS, the highest byte enabled.
+fn commands<S: Side>(k: u32, s: Step) -> bool
+    ensures { result ≡ commands S.side k (access_of s) }
 {
-    (s.kind == kinds::PCI_WRITE)
-        & (s.offset == offsets::CONTROL)
-        & word::bit(s.enables, HIGHEST)
-        & word::bit(s.value, k)
-}
-
-// The same of AGCSTS.
-fn by_addon(k: u32, s: Step) -> bool
-    ensures { result ≡ commands sides.addon k (access_of s) }
-{
-    (s.kind == kinds::ADDON_WRITE)
+    (s.kind == S::WRITE)
         & (s.offset == offsets::CONTROL)
         & word::bit(s.enables, HIGHEST)
         & word::bit(s.value, k)
@@ -46,19 +27,12 @@ fn by_addon(k: u32, s: Step) -> bool
 pub fn clears_marks(s: Step) -> bool
     ensures { result ≡ clears_marks (access_of s) }
 {
-    by_pci(MARKS, s) | by_addon(MARKS, s)
+    commands::<Pci>(MARKS, s) | commands::<Addon>(MARKS, s)
 }
 
-// Whether the FIFO from PCI is to be emptied.
-pub fn clears_from_pci(s: Step) -> bool
-    ensures { result ≡ clears_fifo sides.pci (access_of s) }
+// Whether the FIFO that a side feeds is to be emptied: MCSR and AGCSTS have the two bits the other way round.
+pub fn clears_fifo<S: Side>(s: Step) -> bool
+    ensures { result ≡ clears_fifo S.side (access_of s) }
 {
-    by_pci(MCSR_FROM_PCI, s) | by_addon(AGCSTS_FROM_PCI, s)
-}
-
-// Whether the FIFO from the Add-On is.
-pub fn clears_from_addon(s: Step) -> bool
-    ensures { result ≡ clears_fifo sides.addon (access_of s) }
-{
-    by_pci(MCSR_FROM_ADDON, s) | by_addon(AGCSTS_FROM_ADDON, s)
+    commands::<Pci>(S::CLEARED_BY_PCI, s) | commands::<Addon>(S::CLEARED_BY_ADDON, s)
 }

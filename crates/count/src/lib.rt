@@ -3,10 +3,11 @@
 
 ghost use Rattle.std.specs.Prelude.{◌≡◌, cond, eqb, ltb};
 ghost use Rattle.machine.specs.Words.{written};
+ghost use Rattle.machine.specs.Offsets.{count_at};
 ghost use Rattle.machine.specs.Cycles.{moved, low_enables, count_kept, count_left, runs_out};
 
 use controller::ByteCount;
-use machine::{ALL_ENABLES, Step, WORD_BYTES};
+use machine::{Side, Step, WORD_BYTES};
 
 // The bits that a count keeps, 25 to 0, and so the largest count in form.
 const KEPT: u32 = 0x03FF_FFFF;
@@ -18,6 +19,7 @@ pub fn shown(count: ByteCount) -> u32
     count.0
 }
 
+// Whether nothing is left to move.
 pub fn is_zero(count: ByteCount) -> bool
     ensures { result ≡ eqb count.0 0 }
 {
@@ -35,40 +37,22 @@ pub fn is_out_of_form(count: ByteCount) -> bool
 fn moved(count: ByteCount) -> ByteCount
     ensures { result.0 ≡ moved count.0 }
 {
-    let n = count.0;
-    if n < WORD_BYTES {
-        ByteCount(n)
-    } else {
-        ByteCount(WORD_BYTES)
-    }
+    ByteCount(count.0.min(WORD_BYTES))
 }
 
 // The enables of those bytes.
+#[tactic(auto, unfolding(machine::specs::Cycles::low_enables))]
 pub fn low_enables(count: ByteCount) -> u32
     ensures { result ≡ low_enables count.0 }
 {
-    let n = moved(count).0;
-    if n == 0 {
-        return 0;
-    }
-    if n == 1 {
-        return 1;
-    }
-    if n == 2 {
-        return 3;
-    }
-    if n == 3 {
-        return 7;
-    }
-    ALL_ENABLES
+    (1 << moved(count).0) - 1
 }
 
 // The count after a cycle.
 pub fn count_left(count: ByteCount) -> ByteCount
     ensures { result.0 ≡ count_left count.0 }
 {
-    let n = moved(count).0;
-    ByteCount(count.0 - n)
+    ByteCount(count.0 - moved(count).0)
 }
 
 // Whether a cycle brings the count to zero.
@@ -78,11 +62,11 @@ pub fn runs_out(count: ByteCount) -> bool
     count_left(count).0 == 0
 }
 
-// The count register at an offset after a PCI write.
-pub fn written(at: u32, s: Step, old: ByteCount) -> ByteCount
-    ensures { result.0 ≡ cond (eqb s.offset at) (written count_kept old.0 s.value s.enables) old.0 }
+// The count register of a side's lane after a PCI write.
+pub fn written<S: Side>(s: Step, old: ByteCount) -> ByteCount
+    ensures { result.0 ≡ cond (eqb s.offset (count_at S.side)) (written count_kept old.0 s.value s.enables) old.0 }
 {
-    if s.offset == at {
+    if s.offset == S::COUNT {
         return ByteCount(word::written(KEPT, old.0, s.value, s.enables));
     }
     old

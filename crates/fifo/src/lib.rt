@@ -1,38 +1,34 @@
 // A FIFO of eight 32-bit words: a ring, whose words stand from place `head` on, counted modulo 8. Freed places are used again.
 #![tactic(auto)]
 
-ghost use Rattle.std.specs.Prelude.{◌≡◌, cond, [], suc, ◌+◌, ◌-◌, ◌%◌, eqb, leb, ltb};
+ghost use Rattle.std.specs.Prelude.{◌≡◌, ℕ, cond, List, [], length, suc, ◌+◌, ◌-◌, ◌%◌, eqb, leb, ltb};
+ghost use Rattle.machine.specs.Fifos.{amount};
 ghost use Rattle.fifo.specs.Held.{held};
 
+use machine::Side;
+
 // A number of 32-bit words in a FIFO.
-#[derive(Clone, Copy)]
+#[derive(Clone, Copy, Debug, Default, PartialEq, Eq)]
 pub struct WordFill(pub u32);
 
 const DEPTH: u32 = 8;
 
 // The words, or the room for words, that MCSR 9 and 13 ask for and that its status tells of.
-const FOUR_WORDS: u32 = 4;
+const FOUR: u32 = 4;
 
-// The most words that leave room for one more, and for four.
-const ROOM_FOR_ONE: u32 = 7;
-
-const ROOM_FOR_FOUR: u32 = 4;
-
-#[derive(Clone, Copy)]
+#[derive(Clone, Copy, Debug, Default, PartialEq, Eq)]
 pub struct Fifo {
     pub words: [u32; 8],
     pub head: u32,
     pub fill: WordFill,
 }
 
+// No words.
+#[tactic(auto, unfolding(crate::specs::Held::held, crate::specs::Ring::from))]
 pub fn empty() -> Fifo
     ensures { held result ≡ [] }
 {
-    Fifo {
-        words: [0; 8],
-        head: 0,
-        fill: WordFill(0),
-    }
+    Fifo::default()
 }
 
 // ---- fills
@@ -56,62 +52,34 @@ pub fn is_out_of_form(fill: WordFill) -> bool
     DEPTH < fill.0
 }
 
-// One word, or four.
-fn needed(four: bool) -> WordFill
-    ensures { result.0 ≡ cond four 4 1 }
+// Whether there is what a cycle on a side's lane waits for, one or four: room in the FIFO from PCI, words in the FIFO from the Add-On.
+pub fn has_amount<S: Side>(fill: WordFill, four: bool) -> bool
+    ensures { (words : List ℕ) → length words ≡ fill.0 → result ≡ leb (cond four 4 1) (amount S.side words) }
 {
-    if four {
-        WordFill(FOUR_WORDS)
+    let amount = if S::COUNTS_ROOM {
+        DEPTH.saturating_sub(fill.0)
     } else {
-        WordFill(1)
-    }
-}
-
-// Whether there is a word, or four.
-pub fn has_words(fill: WordFill, four: bool) -> bool
-    ensures { result ≡ leb (cond four 4 1) fill.0 }
-{
-    let need = needed(four);
-    need.0 <= fill.0
-}
-
-// Of the most words that leave room, those for one more or for four.
-fn most(four: bool) -> WordFill
-    ensures { result.0 ≡ cond four 4 7 }
-{
-    if four {
-        WordFill(ROOM_FOR_FOUR)
-    } else {
-        WordFill(ROOM_FOR_ONE)
-    }
-}
-
-// Whether one word more would fit, or four.
-pub fn has_room(fill: WordFill, four: bool) -> bool
-    ensures { result ≡ leb (cond four 4 1) (8 - fill.0) }
-{
-    let most = most(four);
-    fill.0 <= most.0
+        fill.0
+    };
+    let needed = if four { FOUR } else { 1 };
+    needed <= amount
 }
 
 // The fill when a word has come in, if there was room.
 pub fn one_more(fill: WordFill) -> WordFill
     ensures { result.0 ≡ cond (ltb fill.0 8) (suc fill.0) fill.0 }
 {
-    let n = fill.0;
-    if n < DEPTH {
-        WordFill(n + 1)
-    } else {
-        WordFill(n)
+    if fill.0 < DEPTH {
+        return WordFill(fill.0 + 1);
     }
+    fill
 }
 
 // The fill when a word has left, if there was one.
 pub fn one_less(fill: WordFill) -> WordFill
     ensures { result.0 ≡ fill.0 - 1 }
 {
-    let n = fill.0;
-    if n == 0 { WordFill(0) } else { WordFill(n - 1) }
+    WordFill(fill.0.saturating_sub(1))
 }
 
 // ---- the ring

@@ -5,9 +5,10 @@ use mathlib.Core.Bool.{false, cond, ◌||◌}
 use native.Mathlib.Omega.{arith}
 use lib.Dec.{eqb, ltb}
 use borrow.Author.Tests.{ne_eqb, lt-ltb}
-use Rattle.machine.specs.Sides.{pci, addon, host, card}
+use Rattle.machine.specs.Sides.{Side, pci, addon, host, card, party_of}
 use Rattle.machine.specs.State.{State}
 use Rattle.machine.specs.Access.{kind_of, is_read_by, is_write_by, is_on, is_write_on, cycles, is_reset, is_unknown}
+use Rattle.machine.specs.BySide.{read_kind, write_kind, cycle_kind}
 use Rattle.machine.specs.Step.{aborted_reply}
 
 pub record Named (k : ℕ) : Type 0 where
@@ -50,6 +51,27 @@ named (suc (suc (suc (suc (suc (suc (suc n))))))) =
   where
     not_at : (m : ℕ) → m < 7 → false ≡ eqb (suc (suc (suc (suc (suc (suc (suc n))))))) m
     not_at m h = sym (ne_eqb _ m (λ q. omega arith))
+
+-- the same by the side: the read and the write of its party, a read or a write on it, a write on it, the cycle on its lane
+pub read_by : (side : Side) (k : ℕ) → is_read_by (party_of side) (kind_of k) ≡ eqb k (read_kind side)
+read_by pci k = (named k).pci_read
+read_by addon k = (named k).addon_read
+
+pub write_by : (side : Side) (k : ℕ) → is_write_by (party_of side) (kind_of k) ≡ eqb k (write_kind side)
+write_by pci k = (named k).pci_write
+write_by addon k = (named k).addon_write
+
+pub on : (side : Side) (k : ℕ) → is_on side (kind_of k) ≡ (eqb k (read_kind side) || eqb k (write_kind side))
+on pci k = (named k).on_pci
+on addon k = (named k).on_addon
+
+pub write_on : (side : Side) (k : ℕ) → is_write_on side (kind_of k) ≡ eqb k (write_kind side)
+write_on pci k = (named k).write_on_pci
+write_on addon k = (named k).write_on_addon
+
+pub cycle_on : (side : Side) (k : ℕ) → cycles side (kind_of k) ≡ eqb k (cycle_kind side)
+cycle_on pci k = (named k).read_cycle
+cycle_on addon k = (named k).write_cycle
 
 -- what code 13 answers besides
 pub aborted_reply_lem : (st : State) (k : ℕ)

@@ -1,7 +1,7 @@
 // The numbers in which the rules of the two sides differ. What a rule says of a side is written once, over a type that stands for it.
 ghost use Rattle.std.specs.Prelude.{◌≡◌, ℕ, Bool, true, false, refl};
 ghost use Rattle.machine.specs.Sides as sides;
-ghost use Rattle.machine.specs.BySide.{read_kind, write_kind, cycle_kind, counts_room};
+ghost use Rattle.machine.specs.BySide.{read_kind, write_kind, cycle_kind, counts_room, has_transfers, owns_outgoing};
 ghost use Rattle.machine.specs.Commands.{clear_bit};
 ghost use Rattle.machine.specs.Offsets.{address_at, count_at};
 ghost use Rattle.machine.specs.Mcsr.{enable_bit, four_bit};
@@ -45,6 +45,11 @@ pub trait Side {
 
     const COUNT_FLAG: u32;
 
+    // Whether its bus has the registers of addresses and counts, and whether its party owns the outgoing mailboxes.
+    const HAS_TRANSFERS: bool;
+
+    const OWNS_OUTGOING: bool;
+
     ghost READ: { ℕ };
 
     ghost WRITE: { ℕ };
@@ -73,6 +78,10 @@ pub trait Side {
 
     ghost COUNT_FLAG: { ℕ };
 
+    ghost HAS_TRANSFERS: { Bool };
+
+    ghost OWNS_OUTGOING: { Bool };
+
     ghost read_is: { READ ≡ read_kind side };
 
     ghost write_is: { WRITE ≡ write_kind side };
@@ -100,6 +109,10 @@ pub trait Side {
     ghost abort_is: { ABORT ≡ abort_bit side };
 
     ghost count_flag_is: { COUNT_FLAG ≡ count_bit side };
+
+    ghost has_transfers_is: { HAS_TRANSFERS ≡ has_transfers side };
+
+    ghost owns_outgoing_is: { OWNS_OUTGOING ≡ owns_outgoing side };
 }
 
 // PCI, and the lane that read cycles work on.
@@ -139,6 +152,10 @@ impl Side for Pci {
 
     const COUNT_FLAG: u32 = 19;
 
+    const HAS_TRANSFERS: bool = true;
+
+    const OWNS_OUTGOING: bool = true;
+
     ghost READ = { 0 };
 
     ghost WRITE = { 1 };
@@ -167,6 +184,10 @@ impl Side for Pci {
 
     ghost COUNT_FLAG = { 19 };
 
+    ghost HAS_TRANSFERS = { true };
+
+    ghost OWNS_OUTGOING = { true };
+
     ghost read_is = { refl };
 
     ghost write_is = { refl };
@@ -194,6 +215,10 @@ impl Side for Pci {
     ghost abort_is = { refl };
 
     ghost count_flag_is = { refl };
+
+    ghost has_transfers_is = { refl };
+
+    ghost owns_outgoing_is = { refl };
 }
 
 impl Side for Addon {
@@ -227,6 +252,10 @@ impl Side for Addon {
 
     const COUNT_FLAG: u32 = 18;
 
+    const HAS_TRANSFERS: bool = false;
+
+    const OWNS_OUTGOING: bool = false;
+
     ghost READ = { 2 };
 
     ghost WRITE = { 3 };
@@ -255,6 +284,10 @@ impl Side for Addon {
 
     ghost COUNT_FLAG = { 18 };
 
+    ghost HAS_TRANSFERS = { false };
+
+    ghost OWNS_OUTGOING = { false };
+
     ghost read_is = { refl };
 
     ghost write_is = { refl };
@@ -282,4 +315,8 @@ impl Side for Addon {
     ghost abort_is = { refl };
 
     ghost count_flag_is = { refl };
+
+    ghost has_transfers_is = { refl };
+
+    ghost owns_outgoing_is = { refl };
 }

@@ -6,7 +6,7 @@ ghost use Rattle.machine.specs.Access.{access_of, kind_of, is_read_by, is_write_
 ghost use Rattle.machine.specs.Offsets.{is_mailbox, mailbox, writer, reader};
 ghost use Rattle.machine.specs.Mailboxes.{marks_at, fills, takes, changes, mail_after};
 
-use machine::{Step, WORD_BYTES, kinds, offsets};
+use machine::{Addon, Pci, Side, Step, WORD_BYTES, offsets};
 
 // Enables are numbers below this.
 const ENABLES: u32 = 16;
@@ -22,20 +22,24 @@ pub fn is_mailbox(offset: u32) -> bool
 fn is_owner_write(s: Step) -> bool
     ensures { result ≡ is_write_by (writer s.offset) (kind_of s.kind) }
 {
-    if s.offset < offsets::INCOMING {
-        return s.kind == kinds::PCI_WRITE;
-    }
-    s.kind == kinds::ADDON_WRITE
+    let write = if s.offset < offsets::INCOMING {
+        Pci::WRITE
+    } else {
+        Addon::WRITE
+    };
+    s.kind == write
 }
 
 // Whether it is a read by the side that does not own that mailbox.
 fn is_other_read(s: Step) -> bool
     ensures { result ≡ is_read_by (reader s.offset) (kind_of s.kind) }
 {
-    if s.offset < offsets::INCOMING {
-        return s.kind == kinds::ADDON_READ;
-    }
-    s.kind == kinds::PCI_READ
+    let read = if s.offset < offsets::INCOMING {
+        Addon::READ
+    } else {
+        Pci::READ
+    };
+    s.kind == read
 }
 
 // A write by the owner.
@@ -53,6 +57,7 @@ fn takes(s: Step) -> bool
 }
 
 // The marks of the enabled bytes of a mailbox.
+#[tactic(auto, using(laws::proofs::Marks::marks_lt), unfolding(machine::specs::Mailboxes::marks_at))]
 fn marks_at(offset: u32, enables: u32) -> u32
     requires { is_mailbox offset ≡ true }
     ensures { result ≡ marks_at offset enables }
@@ -61,6 +66,7 @@ fn marks_at(offset: u32, enables: u32) -> u32
 }
 
 // The marks that an access changes: an owner's write those of its enabled bytes that are empty, the other side's read those that are full.
+#[tactic(auto, unfolding(machine::specs::Mailboxes::changes))]
 pub fn changes(s: Step, marks: u32) -> u32
     ensures { result ≡ changes (access_of s) marks }
 {
@@ -74,15 +80,14 @@ pub fn changes(s: Step, marks: u32) -> u32
     0
 }
 
-// An owner's write stores the enabled bytes in its mailbox's word.
+// An owner's write stores the enabled bytes in its mailbox's word. (After `get_mut` a proof would know the slice's length alone.)
+#[tactic(auto, unfolding(machine::specs::Mailboxes::mail_after))]
 pub fn store(mail: &mut [u32], s: Step)
     ensures { mail.new ≡ mail_after (access_of s) mail.old }
 {
-    if fills(s) {
-        let at = (s.offset / WORD_BYTES) as usize;
-        if at < mail.len() {
-            mail[at] = word::merged(mail[at], s.value, s.enables);
-        }
+    let at = (s.offset / WORD_BYTES) as usize;
+    if fills(s) && at < mail.len() {
+        mail[at] = word::merged(mail[at], s.value, s.enables);
     }
 }
 
@@ -90,6 +95,7 @@ pub fn store(mail: &mut [u32], s: Step)
 pub fn mail_word(mail: &[u32], offset: u32) -> u32
     ensures { result ≡ get_or mail.now (mailbox offset) 0 }
 {
-    let at = (offset / WORD_BYTES) as usize;
-    if at < mail.len() { mail[at] } else { 0 }
+    mail.get((offset / WORD_BYTES) as usize)
+        .copied()
+        .unwrap_or(0)
 }

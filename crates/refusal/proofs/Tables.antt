@@ -1,9 +1,9 @@
 -- What the tests of the code need of the machine's.
 use Prim.Native.Nat.{ℕ}
 use mathlib.Core.Path.{◌≡◌, refl}
-use mathlib.Core.Bool.{Bool, true, false, cond, not, and-false, false≢true, true≢false}
+use mathlib.Core.Bool.{true, false, and-false, false≢true, true≢false}
 use borrow.Author.Tests.{ne_eqb}
-use Rattle.machine.specs.Sides.{pci, addon, same_side, host, card, side_of}
+use Rattle.machine.specs.Sides.{pci, addon}
 use Rattle.machine.specs.State.{State}
 use Rattle.machine.specs.Access.{Access, Kind, reading, writing, cycle, chip_reset, unknown, is_access}
 use Rattle.machine.specs.Code.{is_unknown_offset, has_bad_enables, is_part_fifo_access, is_read_only_write, is_full_or_empty, is_transfer_off, is_count_zero, is_abort_standing, is_not_ready, is_no_memory, cycle_tests, first_of}
@@ -42,12 +42,3 @@ at_port_lem x h = rw h (simp and-false)
 pub elsewhere : (st : State) (x : Access) → (x.offset ≡ 0x20 → ⊥) → is_full_or_empty st x ≡ false
 unfolding is_full_or_empty
 elsewhere st x h = simp (ne_eqb _ _ h, and-false)
-
--- who owns a mailbox
-pub owned_on_pci : (b : Bool) → same_side pci (side_of (cond b host card)) ≡ b
-owned_on_pci true = refl
-owned_on_pci false = refl
-
-pub owned_on_addon : (b : Bool) → same_side addon (side_of (cond b host card)) ≡ not b
-owned_on_addon true = refl
-owned_on_addon false = refl

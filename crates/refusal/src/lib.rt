@@ -1,68 +1,84 @@
-// The code of a step, in parts: of the form, of a read or a write, of a cycle. Nothing is changed here.
+// What refuses a step, in parts: by the form, of a read or a write, of a cycle. Nothing is changed here.
 #![tactic(auto)]
 
-ghost use Rattle.std.specs.Prelude.{◌≡◌, not, ◌&&◌, ◌||◌, List, ℕ, ◌%◌, eqb, ltb};
-ghost use Rattle.machine.specs.Sides as sides;
-ghost use Rattle.machine.specs.State.{lane};
-ghost use Rattle.machine.specs.Access.{access_of, kind_of, is_access};
-ghost use Rattle.machine.specs.Offsets.{in_table, is_read_only};
+ghost use Rattle.std.specs.Prelude.{◌≡◌, ◌&&◌, ◌||◌, List, ℕ};
+ghost use Rattle.machine.specs.Words.{any_of};
+ghost use Rattle.machine.specs.Sides.{party_of};
+ghost use Rattle.machine.specs.State.{lane, held};
+ghost use Rattle.machine.specs.Access.{access_of, kind_of, is_on, is_write_on, reads, writes};
+ghost use Rattle.machine.specs.Offsets.{in_table, is_read_only, fifo_port};
+ghost use Rattle.machine.specs.Fifos.{is_empty, is_full};
 ghost use Rattle.machine.specs.Rights.{ended};
-ghost use Rattle.machine.specs.Code.{is_unknown_offset, is_read_only_write, is_full_or_empty};
+ghost use Rattle.machine.specs.Cycles.{is_ready};
+ghost use Rattle.machine.specs.Code.{lane_faults, is_out_of_form, is_unknown_offset, is_read_only_write, is_full_or_empty};
+ghost use Rattle.machine.specs.Refusals.{code_number};
 ghost use Rattle.bank.specs.Bank.{state_in};
 ghost use Rattle.refusal.specs.Codes.{access_code, cycle_code, form_code};
 
-use bank::Bank;
-use machine::{ALL_ENABLES, Step, WORD_BYTES, codes, kinds, offsets};
+use bank::{Bank, Places};
+use machine::{ALL_ENABLES, Addon, Pci, Refusal, Side, Step, WORD_BYTES, offsets};
 
-// Code 1, of both lanes: a fill, an address, a count. Each pair stands together: the compiler makes one test of it.
-fn are_lanes_out_of_form(b: Bank) -> bool
-    ensures { result ≡ (ltb 8 b.pci_fill.0 || ltb 8 b.addon_fill.0 || ((not (eqb (b.pci_address % 4) 0) || not (eqb (b.addon_address % 4) 0)) || (ltb 0x03FF_FFFF b.pci_count.0 || ltb 0x03FF_FFFF b.addon_count.0))) }
+// ---- of the form
+
+// Whether the right of a side's lane stands together with an end of it. Mostly none stands, and no end is looked at.
+fn is_right_wrong<S: Places>(b: Bank) -> bool
+    ensures { (mail pci addon : List ℕ) → result ≡ ((lane S.side (state_in b mail pci addon)).right && ended S.side (lane S.side (state_in b mail pci addon)) b.mcsr b.intcsr) }
 {
-    let fills = fifo::is_out_of_form(b.pci_fill) | fifo::is_out_of_form(b.addon_fill);
-    let addresses = (b.pci_address % WORD_BYTES != 0) | (b.addon_address % WORD_BYTES != 0);
-    let counts = count::is_out_of_form(b.pci_count) | count::is_out_of_form(b.addon_count);
-    fills | (addresses | counts)
+    S::lane(b).right && rights::is_ended::<S>(b)
 }
 
-// Whether a right stands together with an end of it. Mostly none stands, and no end is looked at.
-fn is_right_wrong(b: Bank) -> bool
-    ensures { (mail pci addon : List ℕ) → result ≡ (b.pci_right && ended sides.pci (lane sides.pci (state_in b mail pci addon)) b.mcsr b.intcsr || b.addon_right && ended sides.addon (lane sides.addon (state_in b mail pci addon)) b.mcsr b.intcsr) }
+// Code 1, of a side's lane: a fill, an address, a count, a right.
+fn is_lane_out_of_form<S: Places>(b: Bank) -> bool
+    ensures { (mail pci addon : List ℕ) → result ≡ any_of (lane_faults S.side (lane S.side (state_in b mail pci addon)) b.mcsr b.intcsr) }
 {
-    if !(b.pci_right | b.addon_right) {
-        return false;
-    }
-    b.pci_right & rights::is_read_ended(b) | b.addon_right & rights::is_write_ended(b)
+    let lane = S::lane(b);
+    fifo::is_out_of_form(lane.fill)
+        | (lane.address % WORD_BYTES != 0)
+        | count::is_out_of_form(lane.count)
+        | is_right_wrong::<S>(b)
 }
 
-// Codes 1 and 2, or done: no step changes which.
-pub fn form(b: Bank, start: u32, words: usize) -> u32
-    ensures { (mail pci addon : List ℕ) → result ≡ form_code (state_in b mail pci addon) start words }
+// Code 1, of all: the lanes, and a bit in INTCSR, MCSR or AINT that it does not hold.
+fn is_out_of_form(b: Bank) -> bool
+    ensures { (mail pci addon : List ℕ) → result ≡ is_out_of_form (state_in b mail pci addon) }
 {
-    let i = word::is_only(interrupts::INTCSR_KEPT | interrupts::INTCSR_FLAGS, b.intcsr);
-    let m = word::is_only(mcsr::KEPT, b.mcsr);
-    let n = word::is_only(interrupts::AINT_KEPT | interrupts::AINT_FLAGS, b.aint);
-    let lanes = are_lanes_out_of_form(b);
-    if lanes | !i | !m | !n {
-        return codes::STATE_OUT_OF_FORM;
-    }
-    if is_right_wrong(b) {
-        return codes::STATE_OUT_OF_FORM;
+    is_lane_out_of_form::<Pci>(b)
+        | is_lane_out_of_form::<Addon>(b)
+        | !word::is_only(Pci::KEPT | Pci::FLAGS, b.intcsr)
+        | !word::is_only(mcsr::KEPT, b.mcsr)
+        | !word::is_only(Addon::KEPT | Addon::FLAGS, b.aint)
+}
+
+// Codes 1 and 2: no step changes which.
+#[tactic(auto, unfolding(crate::specs::Codes::form_code))]
+pub fn form(b: Bank, start: u32, words: usize) -> Result<(), Refusal>
+    ensures { (mail pci addon : List ℕ) → code_number result ≡ form_code (state_in b mail pci addon) start words }
+{
+    if is_out_of_form(b) {
+        return Err(Refusal::StateOutOfForm);
     }
     if window::is_window_out_of_form(start, words) {
-        return codes::WINDOW_OUT_OF_FORM;
+        return Err(Refusal::WindowOutOfForm);
     }
-    codes::DONE
+    Ok(())
 }
 
-fn is_in_pci_table(offset: u32) -> bool
-    ensures { result ≡ in_table sides.pci offset }
+// ---- of a read or a write
+
+// Whether a kind is a read or a write by a side's party.
+fn is_on<S: Side>(kind: u32) -> bool
+    ensures { result ≡ is_on S.side (kind_of kind) }
 {
-    (offset < offsets::END) & (offset % WORD_BYTES == 0)
+    (kind == S::READ) | (kind == S::WRITE)
 }
 
-fn is_in_addon_table(offset: u32) -> bool
-    ensures { result ≡ in_table sides.addon offset }
+// Whether a side has a register at an offset: PCI at every fourth one, the Add-On without those of addresses and counts.
+fn is_in_table<S: Side>(offset: u32) -> bool
+    ensures { result ≡ in_table S.side offset }
 {
+    if S::HAS_TRANSFERS {
+        return (offset < offsets::END) & (offset % WORD_BYTES == 0);
+    }
     mailboxes::is_mailbox(offset)
         | (offset == offsets::FIFO_PORT)
         | (offset == offsets::STATUS)
@@ -71,125 +87,116 @@ fn is_in_addon_table(offset: u32) -> bool
 }
 
 // Code 4, unknown offset.
+#[tactic(auto, unfolding(machine::specs::Code::is_unknown_offset))]
 fn is_unknown_offset(s: Step) -> bool
     ensures { result ≡ is_unknown_offset (access_of s) }
 {
-    let pci = (s.kind == kinds::PCI_READ) | (s.kind == kinds::PCI_WRITE);
-    let addon = (s.kind == kinds::ADDON_READ) | (s.kind == kinds::ADDON_WRITE);
-    pci & !is_in_pci_table(s.offset) | addon & !is_in_addon_table(s.offset)
+    is_on::<Pci>(s.kind) & !is_in_table::<Pci>(s.offset)
+        | is_on::<Addon>(s.kind) & !is_in_table::<Addon>(s.offset)
 }
 
-fn is_read_only_to_pci(offset: u32) -> bool
-    ensures { result ≡ is_read_only sides.pci offset }
+// Whether a side may read a register but not write it: the mailboxes of the other side's party, and the status.
+fn is_read_only<S: Side>(offset: u32) -> bool
+    ensures { result ≡ is_read_only S.side offset }
 {
-    mailboxes::is_mailbox(offset) & !(offset < offsets::INCOMING) | (offset == offsets::STATUS)
+    let owns = (offset < offsets::INCOMING) == S::OWNS_OUTGOING;
+    mailboxes::is_mailbox(offset) & !owns | (offset == offsets::STATUS)
 }
 
-fn is_read_only_to_addon(offset: u32) -> bool
-    ensures { result ≡ is_read_only sides.addon offset }
+// Whether the step is a write on a side to what is read-only there.
+fn writes_read_only<S: Side>(s: Step) -> bool
+    ensures { result ≡ (is_write_on S.side (kind_of s.kind) && is_read_only S.side s.offset) }
 {
-    mailboxes::is_mailbox(offset) & (offset < offsets::INCOMING) | (offset == offsets::STATUS)
+    (s.kind == S::WRITE) & is_read_only::<S>(s.offset)
 }
 
 // Code 7, read-only register.
+#[tactic(auto, unfolding(machine::specs::Code::is_read_only_write))]
 fn is_read_only_write(s: Step) -> bool
     ensures { result ≡ is_read_only_write (access_of s) }
 {
-    (s.kind == kinds::PCI_WRITE) & is_read_only_to_pci(s.offset)
-        | (s.kind == kinds::ADDON_WRITE) & is_read_only_to_addon(s.offset)
+    writes_read_only::<Pci>(s) | writes_read_only::<Addon>(s)
+}
+
+// Whether a port write finds the FIFO that a side feeds full, or a port read by the side that takes of it finds it empty.
+fn is_port_stuck<S: Places, Taker: Side>(b: Bank, s: Step) -> bool
+    ensures { (mail pci addon : List ℕ) → result ≡ (writes (party_of S.side) fifo_port (access_of s) && is_full (held S.side (state_in b mail pci addon)) || reads (party_of Taker.side) fifo_port (access_of s) && is_empty (held S.side (state_in b mail pci addon))) }
+{
+    let port = s.offset == offsets::FIFO_PORT;
+    let fill = S::lane(b).fill;
+    (s.kind == S::WRITE) & port & fifo::is_full(fill)
+        | (s.kind == Taker::READ) & port & fifo::is_empty(fill)
 }
 
 // Code 8, FIFO full or empty.
+#[tactic(auto, unfolding(machine::specs::Code::is_full_or_empty))]
 fn is_full_or_empty(b: Bank, s: Step) -> bool
     ensures { (mail pci addon : List ℕ) → result ≡ is_full_or_empty (state_in b mail pci addon) (access_of s) }
 {
-    let port = s.offset == offsets::FIFO_PORT;
-    (s.kind == kinds::PCI_WRITE) & port & fifo::is_full(b.pci_fill)
-        | (s.kind == kinds::ADDON_READ) & port & fifo::is_empty(b.pci_fill)
-        | ((s.kind == kinds::ADDON_WRITE) & port & fifo::is_full(b.addon_fill)
-            | (s.kind == kinds::PCI_READ) & port & fifo::is_empty(b.addon_fill))
+    is_port_stuck::<Pci, Addon>(b, s) | is_port_stuck::<Addon, Pci>(b, s)
 }
 
-// Whether a kind is a read or a write.
-fn is_access(kind: u32) -> bool
-    ensures { result ≡ is_access (kind_of kind) }
+// Codes 4 to 8, of a read or a write: 6 and 8 are of the FIFO port alone, 7 is of others. Nothing here refuses any other kind.
+#[tactic(auto, using(crate::proofs::Tables::other_kind, crate::proofs::Tables::at_port_lem, crate::proofs::Tables::elsewhere), unfolding(machine::specs::Code::has_bad_enables, machine::specs::Code::is_part_fifo_access))]
+pub fn access(b: Bank, s: Step) -> Result<(), Refusal>
+    ensures goes_on { code_number result ≡ 13 → ⊥ }
+    ensures code { (mail pci addon : List ℕ) → code_number result ≡ access_code (state_in b mail pci addon) (access_of s) }
 {
-    (kind == kinds::PCI_READ)
-        | (kind == kinds::PCI_WRITE)
-        | (kind == kinds::ADDON_READ)
-        | (kind == kinds::ADDON_WRITE)
-}
-
-// Codes 4 to 8, or done, of a read or a write: 6 and 8 are of the FIFO port alone, 7 is of others. Of any other kind done.
-pub fn access_code(b: Bank, s: Step) -> u32
-    ensures { (result ≡ 13 → ⊥) × ((mail pci addon : List ℕ) → result ≡ access_code (state_in b mail pci addon) (access_of s)) }
-{
-    if !is_access(s.kind) {
-        return codes::DONE;
+    if !(is_on::<Pci>(s.kind) | is_on::<Addon>(s.kind)) {
+        return Ok(());
     }
     if is_unknown_offset(s) {
-        return codes::UNKNOWN_OFFSET;
+        return Err(Refusal::UnknownOffset);
     }
     if ALL_ENABLES < s.enables {
-        return codes::BAD_ENABLES;
+        return Err(Refusal::BadEnables);
     }
     if s.offset != offsets::FIFO_PORT {
         if is_read_only_write(s) {
-            return codes::READ_ONLY_REGISTER;
+            return Err(Refusal::ReadOnlyRegister);
         }
-        return codes::DONE;
+        return Ok(());
     }
     if s.enables != ALL_ENABLES {
-        return codes::PART_FIFO_ACCESS;
+        return Err(Refusal::PartFifoAccess);
     }
     if is_full_or_empty(b, s) {
-        return codes::FIFO_FULL_OR_EMPTY;
+        return Err(Refusal::FifoFullOrEmpty);
     }
-    codes::DONE
+    Ok(())
 }
 
-// Codes 9 to 13, or done, of a write cycle.
-pub fn write_cycle_code(b: Bank, start: u32, words: usize) -> u32
-    ensures { (mail pci addon : List ℕ) → result ≡ cycle_code sides.addon (state_in b mail pci addon) start words }
+// ---- of a cycle
+
+// Whether the cycle on a side's lane has what it waits for: one word or room for one, or four where MCSR asks for four and it has no right.
+fn is_ready<S: Places>(b: Bank) -> bool
+    ensures { (mail pci addon : List ℕ) → result ≡ is_ready S.side (state_in b mail pci addon) }
 {
-    if !word::bit(b.mcsr, mcsr::WRITE_ENABLE) {
-        return codes::TRANSFER_OFF;
-    }
-    if count::is_zero(b.addon_count) {
-        return codes::COUNT_IS_ZERO;
-    }
-    if interrupts::is_abort_in(b.intcsr) {
-        return codes::ABORT_STANDS;
-    }
-    let four = word::bit(b.mcsr, mcsr::WRITE_FOUR) & !b.addon_right;
-    if !fifo::has_words(b.addon_fill, four) {
-        return codes::FIFO_NOT_READY;
-    }
-    if !window::is_inside(start, words, b.addon_address) {
-        return codes::NO_MEMORY_THERE;
-    }
-    codes::DONE
+    let lane = S::lane(b);
+    let four = word::bit(b.mcsr, S::FOUR) & !lane.right;
+    fifo::has_amount::<S>(lane.fill, four)
 }
 
-// Codes 9 to 13, or done, of a read cycle.
-pub fn read_cycle_code(b: Bank, start: u32, words: usize) -> u32
-    ensures { (mail pci addon : List ℕ) → result ≡ cycle_code sides.pci (state_in b mail pci addon) start words }
+// Codes 9 to 13, of the cycle on a side's lane.
+#[tactic(auto, using(crate::proofs::Cycles::cycle_code_is))]
+pub fn cycle<S: Places>(b: Bank, start: u32, words: usize) -> Result<(), Refusal>
+    ensures { (mail pci addon : List ℕ) → code_number result ≡ cycle_code S.side (state_in b mail pci addon) start words }
 {
-    if !word::bit(b.mcsr, mcsr::READ_ENABLE) {
-        return codes::TRANSFER_OFF;
+    let lane = S::lane(b);
+    if !word::bit(b.mcsr, S::ENABLE) {
+        return Err(Refusal::TransferOff);
     }
-    if count::is_zero(b.pci_count) {
-        return codes::COUNT_IS_ZERO;
+    if count::is_zero(lane.count) {
+        return Err(Refusal::CountIsZero);
     }
     if interrupts::is_abort_in(b.intcsr) {
-        return codes::ABORT_STANDS;
+        return Err(Refusal::AbortStands);
     }
-    let four = word::bit(b.mcsr, mcsr::READ_FOUR) & !b.pci_right;
-    if !fifo::has_room(b.pci_fill, four) {
-        return codes::FIFO_NOT_READY;
+    if !is_ready::<S>(b) {
+        return Err(Refusal::FifoNotReady);
     }
-    if !window::is_inside(start, words, b.pci_address) {
-        return codes::NO_MEMORY_THERE;
+    if !window::is_inside(start, words, lane.address) {
+        return Err(Refusal::NoMemoryThere);
     }
-    codes::DONE
+    Ok(())
 }

@@ -8,163 +8,122 @@ use fifo::{Fifo, WordFill};
 use logline::ENGLISH;
 use machine::{Answer, Step};
 
-// Number k of a case.
-fn field(line: &[u8], k: usize) -> u32 {
-    let mut n: u32 = 0;
-    let mut i = 0;
-    while i < 8 {
-        let at = k % 64 * 8 + i;
-        if at < line.len() {
-            n = n % 0x1000_0000 * 16 + (hex_digits::digit_number(line[at]) % 16) as u32;
+// ---- a case
+
+// The digits of its numbers, those that are not taken yet.
+#[derive(Clone, Copy)]
+struct Numbers<'a>(&'a [u8]);
+
+impl Numbers<'_> {
+    // The next number; zero past the line's end. A byte that is no digit counts as zero.
+    fn next(&mut self) -> u32 {
+        let (digits, rest) = self.0.split_at(self.0.len().min(8));
+        self.0 = rest;
+        let mut n: u32 = 0;
+        for b in digits {
+            n = n % 0x1000_0000 * 16 + u32::from(hex_digits::digit_number(*b) % 16);
         }
-        i += 1;
+        n
     }
-    n
+
+    fn next_eight(&mut self) -> [u32; 8] {
+        let mut words = [0; 8];
+        for word in &mut words {
+            *word = self.next();
+        }
+        words
+    }
+
+    // A lane without its right, which stands elsewhere: fill, eight words, address, count.
+    fn next_lane(&mut self) -> Lane {
+        let fill = WordFill(self.next());
+        let words = self.next_eight();
+        Lane {
+            fifo: Fifo {
+                words,
+                head: 0,
+                fill,
+            },
+            address: self.next(),
+            count: ByteCount(self.next()),
+            right: false,
+        }
+    }
+
+    fn next_controller(&mut self) -> Controller {
+        let mut c = Controller {
+            mail: self.next_eight(),
+            marks: self.next(),
+            from_pci: self.next_lane(),
+            from_addon: self.next_lane(),
+            intcsr: self.next(),
+            mcsr: self.next(),
+            aint: self.next(),
+        };
+        c.from_addon.right = self.next() != 0;
+        c.from_pci.right = self.next() != 0;
+        c
+    }
+
+    fn next_step(&mut self) -> Step {
+        Step {
+            kind: self.next(),
+            offset: self.next(),
+            enables: self.next(),
+            value: self.next(),
+        }
+    }
 }
 
-fn fields(line: &[u8], k: usize) -> [u32; 8] {
-    let j = k % 64;
-    [
-        field(line, j),
-        field(line, j + 1),
-        field(line, j + 2),
-        field(line, j + 3),
-        field(line, j + 4),
-        field(line, j + 5),
-        field(line, j + 6),
-        field(line, j + 7),
-    ]
-}
-
-// A lane from number k on: fill, eight words, address, count; and its right, number r.
-fn lane(line: &[u8], k: usize, r: usize) -> Lane {
-    let j = k % 64;
-    let words = fields(line, j + 1);
-    let fifo = Fifo {
-        words,
-        head: 0,
-        fill: WordFill(field(line, j)),
-    };
-    Lane {
-        fifo,
-        address: field(line, j + 9),
-        count: ByteCount(field(line, j + 10)),
-        right: field(line, r) != 0,
-    }
-}
-
-fn controller(line: &[u8]) -> Controller {
-    let mail = fields(line, 0);
-    let from_pci = lane(line, 9, 35);
-    let from_addon = lane(line, 20, 34);
-    Controller {
-        mail,
-        marks: field(line, 8),
-        from_pci,
-        from_addon,
-        intcsr: field(line, 31),
-        mcsr: field(line, 32),
-        aint: field(line, 33),
-    }
-}
+// ---- the window
 
 // Memory word i is base + i.
-fn filled(memory: &mut [u32], base: u32) {
-    let mut i = 0;
-    let mut word = base;
-    while i < memory.len() {
-        memory[i] = word;
-        word = std::num::wrapping_add_u32(word, 1);
-        i += 1;
+fn fill(memory: &mut [u32], base: u32) {
+    for (word, i) in memory.iter_mut().zip(0..u32::MAX) {
+        *word = base.wrapping_add(i);
     }
 }
 
-// The place of the first word that is not base + i, or the length.
-fn changed(memory: &[u32], base: u32) -> usize {
-    let mut i = 0;
-    let mut word = base;
-    while i < memory.len() {
-        if memory[i] != word {
-            return i;
+// The place of the first word that is not base + i, and the word.
+fn changed(memory: &[u32], base: u32) -> Option<(u32, u32)> {
+    for (word, i) in memory.iter().zip(0..u32::MAX) {
+        if *word != base.wrapping_add(i) {
+            return Some((i, *word));
         }
-        word = std::num::wrapping_add_u32(word, 1);
-        i += 1;
     }
-    i
+    None
 }
 
-fn write_number<R: Print>(rt: &R, x: u32) {
-    let d = eight::digits(x);
-    let digits = [
-        (d % 256) as u8,
-        ((d >> 8) % 256) as u8,
-        ((d >> 16) % 256) as u8,
-        ((d >> 24) % 256) as u8,
-        ((d >> 32) % 256) as u8,
-        ((d >> 40) % 256) as u8,
-        ((d >> 48) % 256) as u8,
-        ((d >> 56) % 256) as u8,
-    ];
-    let _ = rt.write_all(&digits);
+// ---- what is written
+
+fn write_numbers<R: Print>(rt: &R, numbers: &[u32]) {
+    for n in numbers {
+        let _ = rt.write_all(&eight::digits(*n).to_le_bytes());
+    }
 }
 
 // A lane as it is read: of the words those that the FIFO holds, front first, zeros after them.
 fn write_lane<R: Print>(rt: &R, l: Lane) {
-    let f = l.fifo;
-    let fill = f.fill.0;
-    write_number(rt, fill);
-    let words = f.words;
-    let mut head = f.head;
-    let mut i: u32 = 0;
-    while i < 8 {
-        let at = fifo::front_place(head);
-        write_number(rt, if i < fill { words[at] } else { 0 });
-        head = fifo::past(head);
-        i += 1;
+    let fill = l.fifo.fill.0;
+    let mut words = l.fifo.words;
+    words.rotate_left(fifo::front_place(l.fifo.head));
+    if let Some(past) = words.get_mut(fill as usize..) {
+        past.fill(0);
     }
-    write_number(rt, l.address);
-    write_number(rt, l.count.0);
-}
-
-fn write_words<R: Print>(rt: &R, words: [u32; 8]) {
-    write_number(rt, words[0]);
-    write_number(rt, words[1]);
-    write_number(rt, words[2]);
-    write_number(rt, words[3]);
-    write_number(rt, words[4]);
-    write_number(rt, words[5]);
-    write_number(rt, words[6]);
-    write_number(rt, words[7]);
+    write_numbers(rt, &[fill]);
+    write_numbers(rt, &words);
+    write_numbers(rt, &[l.address, l.count.0]);
 }
 
 // The state in the order of a case.
 fn write_state<R: Print>(rt: &R, c: Controller) {
-    let mail = c.mail;
-    write_words(rt, mail);
-    write_number(rt, c.marks);
-    let from_pci = c.from_pci;
-    let pci_right = from_pci.right;
-    write_lane(rt, from_pci);
-    let from_addon = c.from_addon;
-    let addon_right = from_addon.right;
-    write_lane(rt, from_addon);
-    write_number(rt, c.intcsr);
-    write_number(rt, c.mcsr);
-    write_number(rt, c.aint);
-    write_number(rt, if addon_right { 1 } else { 0 });
-    write_number(rt, if pci_right { 1 } else { 0 });
-}
-
-// Where the memory changed and to what; all ones and zero where it did not.
-fn write_memory<R: Print>(rt: &R, memory: &[u32], base: u32) {
-    let i = changed(memory, base);
-    if i < memory.len() {
-        write_number(rt, (i % 0x1_0000_0000) as u32);
-        write_number(rt, memory[i]);
-    } else {
-        write_number(rt, 0xFFFF_FFFF);
-        write_number(rt, 0);
-    }
+    write_numbers(rt, &c.mail);
+    write_numbers(rt, &[c.marks]);
+    write_lane(rt, c.from_pci);
+    write_lane(rt, c.from_addon);
+    let write_right = u32::from(c.from_addon.right);
+    let read_right = u32::from(c.from_pci.right);
+    write_numbers(rt, &[c.intcsr, c.mcsr, c.aint, write_right, read_right]);
 }
 
 fn write_answer<R: Print>(rt: &R, a: Answer) {
@@ -173,49 +132,35 @@ fn write_answer<R: Print>(rt: &R, a: Answer) {
     let _ = rt.write_all(&out[..n]);
 }
 
-fn step_in(line: &[u8]) -> Step {
-    Step {
-        kind: field(line, 39),
-        offset: field(line, 40),
-        enables: field(line, 41),
-        value: field(line, 42),
-    }
-}
-
-// One case over its window.
-fn run_case<R: Print>(rt: &R, line: &[u8], window: &mut [u32]) {
-    let base = field(line, 38);
-    filled(window, base);
-    let r = step::step(controller(line), window, field(line, 36), step_in(line));
-    let a = r.answer;
-    let c = r.controller;
-    write_answer(rt, a);
-    write_state(rt, c);
-    write_memory(rt, window, base);
-    write_number(rt, a.changed);
+// One case. The window has as many words as it says, if there are so many.
+fn run<R: Print>(rt: &R, line: &[u8], memory: &mut [u32]) {
+    let mut numbers = Numbers(line);
+    let c = numbers.next_controller();
+    let start = numbers.next();
+    let words = numbers.next() as usize;
+    let base = numbers.next();
+    let Some(window) = memory.get_mut(..words) else {
+        return;
+    };
+    fill(window, base);
+    let r = step::step(c, window, start, numbers.next_step());
+    write_answer(rt, r.answer);
+    write_state(rt, r.controller);
+    // all ones and zero where no word changed
+    let (place, word) = changed(window, base).unwrap_or((0xFFFF_FFFF, 0));
+    write_numbers(rt, &[place, word, r.answer.changed]);
     let _ = rt.write_all(b"\n");
-}
-
-// The window has as many words as the case says, if there are so many.
-fn run_line<R: Print>(rt: &R, line: &[u8], memory: &mut [u32]) {
-    let words = field(line, 37) as usize;
-    if words <= memory.len() {
-        run_case(rt, line, &mut memory[..words]);
-    }
 }
 
 fn run_lines<R: Print>(rt: &R, text: &[u8]) {
     let mut memory = [0u32; 16385];
-    let mut at = 0;
-    while at < text.len() {
-        run_line(rt, lines::line_at(text, at), &mut memory);
-        at = lines::past_line(text, at);
+    for line in text.split_inclusive(|b| *b == b'\n') {
+        run(rt, line.strip_suffix(b"\n").unwrap_or(line), &mut memory);
     }
 }
 
 fn main(rt: HostRuntime) {
     let mut text = [0u8; 524288];
-    let mut reader = rt.reader();
-    let n = streams::read_full(&mut reader, &mut text);
+    let n = streams::read_full(&mut rt.reader(), &mut text);
     run_lines(&rt, &text[..n]);
 }

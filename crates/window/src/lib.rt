@@ -10,6 +10,7 @@ use machine::WORD_BYTES;
 const WINDOW_MAX: usize = 16384;
 
 // Code 2, window out of form.
+#[tactic(auto, unfolding(machine::specs::Window::is_window_out_of_form))]
 pub fn is_window_out_of_form(start: u32, words: usize) -> bool
     ensures { result ≡ is_window_out_of_form start words }
 {

@@ -8,13 +8,15 @@ ghost use Rattle.machine.specs.Words.{bit, mask, cleared, raised, shown, merged,
 const BITS: u32 = 32;
 
 // Whether bit k of x is set.
+#[tactic(auto, unfolding(machine::specs::Words::bit))]
 pub fn bit(x: u32, k: u32) -> bool
     ensures { result ≡ bit x k }
 {
-    if k < BITS { (x >> k) % 2 == 1 } else { false }
+    k < BITS && (x >> k) % 2 == 1
 }
 
 // Ones at the enabled bytes.
+#[tactic(auto, using(crate::proofs::Masks::mask_of_low), unfolding(machine::specs::Words::bit, machine::specs::Words::mask, machine::specs::Words::byte_mask))]
 fn mask(enables: u32) -> u32
     ensures { result ≡ mask enables }
 {
@@ -40,6 +42,7 @@ fn mask(enables: u32) -> u32
 }
 
 // x with zeros where y has ones.
+#[tactic(auto, unfolding(machine::specs::Words::cleared))]
 pub fn cleared(x: u32, y: u32) -> u32
     ensures { result ≡ cleared x y }
 {
@@ -47,6 +50,7 @@ pub fn cleared(x: u32, y: u32) -> u32
 }
 
 // x with bit k set, k counted modulo 32, if on.
+#[tactic(auto, unfolding(machine::specs::Words::raised))]
 pub fn raised(x: u32, on: bool, k: u32) -> u32
     ensures { result ≡ raised x on (k % 32) }
 {
@@ -54,6 +58,7 @@ pub fn raised(x: u32, on: bool, k: u32) -> u32
 }
 
 // The enabled bytes of x, zero at the others.
+#[tactic(auto, unfolding(machine::specs::Words::shown))]
 pub fn shown(x: u32, enables: u32) -> u32
     ensures { result ≡ shown x enables }
 {
@@ -61,6 +66,7 @@ pub fn shown(x: u32, enables: u32) -> u32
 }
 
 // The enabled bytes of new, the others of old.
+#[tactic(auto, unfolding(machine::specs::Words::merged))]
 pub fn merged(old: u32, new: u32, enables: u32) -> u32
     ensures { result ≡ merged old new enables }
 {
@@ -68,6 +74,7 @@ pub fn merged(old: u32, new: u32, enables: u32) -> u32
 }
 
 // A write to a register that keeps the bits where keeps has ones.
+#[tactic(auto, unfolding(machine::specs::Words::written))]
 pub fn written(keeps: u32, old: u32, new: u32, enables: u32) -> u32
     ensures { result ≡ written keeps old new enables }
 {
@@ -75,6 +82,7 @@ pub fn written(keeps: u32, old: u32, new: u32, enables: u32) -> u32
 }
 
 // Whether x has no ones but those of y.
+#[tactic(auto, unfolding(machine::specs::Words::only))]
 pub fn is_only(y: u32, x: u32) -> bool
     ensures { result ≡ only y x }
 {

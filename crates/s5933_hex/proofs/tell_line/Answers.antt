@@ -5,6 +5,6 @@ use Rattle.s5933_hex.proofs.tell_line.Goals as goal
 
 pub overflow_add-line : goal.overflow_add-line
 overflow_add-line g c =
-    let n = c.line_count-before in
+    let n = c.line_count in
     let t = c.args.text in
     record { fits = omega (arith, n.ensures, lines_few (take c.refused_at-at.result t.now), length-take c.refused_at-at.result t.now) }

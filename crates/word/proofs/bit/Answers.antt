@@ -1,12 +1,8 @@
-use mathlib.Core.Path.{refl, sym}
+use mathlib.Core.Path.{sym, ◌∙◌}
 use native.Mathlib.Omega.{arith}
-use Rattle.machine.specs.Words.{bit}
+use borrow.Author.Tests.{le-ltb}
 use Rattle.laws.proofs.Bits.{bit_beyond}
 use Rattle.word.proofs.bit.Goals as goal
 
-pub returns-then-k-lt-BITS : goal.returns-then-k-lt-BITS
-unfolding bit
-returns-then-k-lt-BITS c = refl
-
 pub returns-else-k-lt-BITS : goal.returns-else-k-lt-BITS
-returns-else-k-lt-BITS c = sym (bit_beyond 32 _ _ (omega arith) (omega arith))
+returns-else-k-lt-BITS c = le-ltb c.args.k 32 (omega arith) ∙ sym (bit_beyond 32 c.args.k c.args.x (omega arith) (omega arith))
