@@ -3,15 +3,13 @@
 #![tactic(auto)]
 
 use controller::Controller;
-use frame::Framed;
 use logline::ENGLISH;
 use step::Stepped;
 
 // One line, by the form asked for.
 fn answer(c: Controller, memory: &mut [u32], line: &[u8], is_in_place: bool) -> Stepped {
     if is_in_place {
-        let f = frame::frame(line);
-        if let Framed::Frame(s) = f {
+        if let Some(s) = frame::frame(line) {
             return place::step_by_place(c, memory, 0, s);
         }
     }

@@ -8,7 +8,7 @@ use std::io::Read;
 use std::process::ExitCode;
 use std::rt::Files;
 use streams::Sent;
-use tally::{Tally, Total};
+use tally::Tally;
 
 // How reading and writing went: there may be more; the input has ended; a read or a write failed; the label set is unknown; nobody reads
 // the output any more.
@@ -79,13 +79,9 @@ fn read_piece<R: Print + Eprint, I: Read>(
 
 // The end of the input: the line of what it comes to.
 fn read_end<R: Print + Eprint>(rt: &R, t: Tally, memory: &mut [u32]) -> Went {
-    let total = tally::finish(t, memory, 0);
-    match total {
-        Total::Cycles(writes, reads) => {
-            let line = tally::line(writes, reads);
-            write(rt, &line, Went::End)
-        }
-        Total::UnknownSet => refuse(rt),
+    match tally::finish(t, memory, 0) {
+        Some(cycles) => write(rt, &tally::line(cycles), Went::End),
+        None => refuse(rt),
     }
 }
 

@@ -10,7 +10,6 @@ use lib.Dec.{ltb, leb}
 use Rattle.machine.specs.Window.{is_window_out_of_form}
 use Rattle.lines.specs.Lines.{lines}
 use Rattle.controller.specs.declared.Controller.{Controller}
-use Rattle.frame_log.specs.declared.Logged.TheVariants.{NoRoom}
 use Rattle.frame_log.specs.declared.Stream.{Stream}
 use Rattle.frame_log.specs.declared.Streamed.{Streamed}
 use Rattle.frame_log.specs.declared.Ran.{Ran}
@@ -28,7 +27,7 @@ either test false p q = q
 
 -- ---- a log
 
-none_within : (out : List ℕ) → is_within NoRoom out ≡ true
+none_within : (out : List ℕ) → is_within no_room out ≡ true
 unfolding is_within
 none_within out = refl
 

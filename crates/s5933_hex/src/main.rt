@@ -8,9 +8,8 @@
 ghost use Rattle.std.specs.Prelude.{◌≤◌, ◌<◌, ◌≡◌, true, length};
 ghost use Rattle.frame_log.specs.Results.{is_within};
 
-use frame_log::Logged;
+use frame_log::NoRoom;
 use hex_export::Exported;
-use input::Chosen;
 use machine::codes;
 use std::io;
 use std::io::Read;
@@ -53,17 +52,17 @@ fn after_write(sent: Sent, on: Ended) -> Ended {
 }
 
 // Writes the log that stands at the output's start, if it is asked for.
-fn write_log<R: Print + Eprint>(rt: &R, log: Logged, out: &[u8], is_shown: bool) -> Sent
+fn write_log<R: Print + Eprint>(rt: &R, log: Result<usize, NoRoom>, out: &[u8], is_shown: bool) -> Sent
     requires { is_within log out.now ≡ true }
 {
     match log {
-        Logged::Written(n) => {
+        Ok(n) => {
             if is_shown {
                 return write_first(rt, out, n);
             }
             Sent::Whole
         }
-        Logged::NoRoom => Sent::Failed,
+        Err(NoRoom) => Sent::Failed,
     }
 }
 
@@ -257,11 +256,11 @@ fn run_mode<R: Print + Eprint>(
 fn run<R: Print + Eprint>(rt: &R, text: &[u8], memory: &mut [u32], out: &mut [u8]) -> Ended {
     let chosen = input::set_of(text);
     match chosen {
-        Chosen::Set(set) => {
+        Some(set) => {
             let past = lines::past_line(text, 0);
             run_mode(rt, &text[past..], memory, out, set)
         }
-        Chosen::Unknown => refuse_set(rt, out),
+        None => refuse_set(rt, out),
     }
 }
 

@@ -5,7 +5,7 @@
 ghost use Rattle.std.specs.Prelude.{◌≡◌, true};
 ghost use Rattle.frame_log.specs.Results.{is_within};
 
-use frame_log::Logged;
+use frame_log::NoRoom;
 use input::{Input, Reading};
 use std::io::Read;
 use std::process::ExitCode;
@@ -30,12 +30,12 @@ struct Next {
 }
 
 // Writes the log that stands at the output's start.
-fn write<R: Print + Eprint>(rt: &R, log: Logged, out: &[u8]) -> Sent
+fn write<R: Print + Eprint>(rt: &R, log: Result<usize, NoRoom>, out: &[u8]) -> Sent
     requires { is_within log out.now ≡ true }
 {
     match log {
-        Logged::Written(n) => streams::written(rt, "s5933_log: write", rt.write_all(&out[..n])),
-        Logged::NoRoom => {
+        Ok(n) => streams::written(rt, "s5933_log: write", rt.write_all(&out[..n])),
+        Err(NoRoom) => {
             let _ = rt.eprintln("s5933_log: no room for the log");
             Sent::Failed
         }
