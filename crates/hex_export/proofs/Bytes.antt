@@ -1,23 +1,20 @@
 -- Laws of a window's words as bytes, and of bytes as digits.
 --     bytes_part               the bytes of a part of the words
---     total-more, hexes-more   one word more
---     total-four, hexes-four   four words
---     byte-halves, word-halves        the bytes of a number, in halves
---     four-digits, last_two           four bytes as the digits of one number; the last byte of it
+--     total_more, hexes_more   one word more
+--     four_digits, last_two, last_four     bytes as the digits of one number
 --     parts, data_text         the parts of a record's text
-use Prim.Native.Nat.{ℕ, zero, suc, ◌+◌, ◌-◌, ◌*◌, ◌/◌, ◌%◌, ◌<◌, ◌≤◌}
+use Prim.Native.Nat.{ℕ, zero, suc, ◌+◌, ◌-◌, ◌*◌, ◌/◌, ◌%◌, ◌<◌}
 use mathlib.Core.Path.{◌≡◌, refl, sym, ap, ◌∙◌}
-use mathlib.Core.List.{List, [], ◌∷◌, ◌++◌, append_assoc, append-nil, tail-eq_of_cons-eq}
-use native.Mathlib.Nat.{add-zero, div-div-eq-div-mul}
+use mathlib.Core.List.{List, [], ◌∷◌, ◌++◌, append_assoc, append-nil}
+use native.Mathlib.Nat.{div-div-eq-div-mul}
 use native.Mathlib.Numerals.{add-one}
 use native.Mathlib.Omega.{arith}
-use lib.ListN.{length, get_or, take, drop, length-drop}
-use lib.Seq.{take-suc, get_or-drop}
+use lib.ListN.{length, get_or, take, drop}
+use lib.Seq.{take-suc}
 use Rattle.hex_digits.specs.Hex.{digit_of, digits}
-use Rattle.eight.specs.Written.{bytes_of}
 use Rattle.records.specs.Window.{window_bytes}
 use Rattle.records.specs.Record.{Record, total, front, check, all_bytes, hexes, text_of}
-use Rattle.records.specs.Export.{data_record}
+use Rattle.records.specs.Export.{data_record, cut}
 use Rattle.records.proofs.Bytes.{total_append}
 
 -- ---- words
@@ -47,52 +44,24 @@ unfolding hexes
 hexes_append [] ys = refl
 hexes_append (x ∷ xs) ys = rw (hexes_append xs ys, append_assoc)
 
-module _ (ws : List ℕ) (i n k : ℕ) (fits : i + n ≤ length ws) (more : k < n) where
+-- one word more
+module _ (ws : List ℕ) (k : ℕ) (more : k < length ws) where
   abbrev done : List ℕ
-  done = window_bytes (take k (drop i ws))
+  done = window_bytes (take k ws)
 
   abbrev next : List ℕ
-  next = window_bytes (get_or ws (i + k) 0 ∷ [])
+  next = window_bytes (get_or ws k 0 ∷ [])
 
-  bytes-more : window_bytes (take (k + 1) (drop i ws)) ≡ done ++ next
-  bytes-more =
-      rw (add-one, take-suc (drop i ws) k 0 (rw length-drop (omega arith)), get_or-drop i ws k 0) (bytes_append (take k (drop i ws)) (get_or ws (i + k) 0 ∷ []))
+  bytes_more : window_bytes (take (k + 1) ws) ≡ done ++ next
+  bytes_more = rw (add-one, take-suc ws k 0 more) (bytes_append (take k ws) (get_or ws k 0 ∷ []))
 
-  pub total-more : total (window_bytes (take (k + 1) (drop i ws))) ≡ total done + total next
-  total-more = rw bytes-more (total_append done next)
+  pub total_more : total (window_bytes (take (k + 1) ws)) ≡ total done + total next
+  total_more = rw bytes_more (total_append done next)
 
-  pub hexes-more : hexes done ++ hexes next ≡ hexes (window_bytes (take (k + 1) (drop i ws)))
-  hexes-more = rw bytes-more (sym (hexes_append done next))
-
--- four words
-module _ (ws : List ℕ) (i : ℕ) (fits : i + 4 ≤ length ws) where
-  abbrev word : ℕ → List ℕ
-  word n = window_bytes (n ∷ [])
-
-  four-words : window_bytes (take 4 (drop i ws)) ≡ word (get_or ws i 0) ++ word (get_or ws (i + 1) 0) ++ word (get_or ws (i + 2) 0) ++ word (get_or ws (i + 3) 0)
-  unfolding window_bytes
-  four-words =
-      let e3 : window_bytes (take 4 (drop i ws)) ≡ window_bytes (take 3 (drop i ws)) ++ word (get_or ws (i + 3) 0) = bytes-more ws i 4 3 fits (omega arith) in
-      let e2 : window_bytes (take 3 (drop i ws)) ≡ window_bytes (take 2 (drop i ws)) ++ word (get_or ws (i + 2) 0) = bytes-more ws i 4 2 fits (omega arith) in
-      let e1 : window_bytes (take 2 (drop i ws)) ≡ window_bytes (take 1 (drop i ws)) ++ word (get_or ws (i + 1) 0) = bytes-more ws i 4 1 fits (omega arith) in
-      let e0 : window_bytes (take 1 (drop i ws)) ≡ word (get_or ws i 0) = rw add-zero at (bytes-more ws i 4 0 fits (omega arith)) in
-      rw (e3, e2, e1, e0)
-
-  pub total-four : total (window_bytes (take 4 (drop i ws))) ≡ total (word (get_or ws i 0)) + total (word (get_or ws (i + 1) 0)) + total (word (get_or ws (i + 2) 0)) + total (word (get_or ws (i + 3) 0))
-  total-four = rw (four-words, total_append, total_append, total_append)
-
-  pub hexes-four : hexes (word (get_or ws i 0)) ++ hexes (word (get_or ws (i + 1) 0)) ++ hexes (word (get_or ws (i + 2) 0)) ++ hexes (word (get_or ws (i + 3) 0)) ≡ hexes (window_bytes (take 4 (drop i ws)))
-  hexes-four = rw (four-words, hexes_append, hexes_append, hexes_append)
+  pub hexes_more : hexes done ++ hexes next ≡ hexes (window_bytes (take (k + 1) ws))
+  hexes_more = rw bytes_more (sym (hexes_append done next))
 
 -- ---- digits
-
-pub four_bytes : (v : ℕ) → bytes_of 4 v ≡ bytes_of 2 v ++ bytes_of 2 (v / 65536)
-unfolding bytes_of
-four_bytes v = simp (div-div-eq-div-mul)
-
-pub eight_bytes : (v : ℕ) → bytes_of 8 v ≡ bytes_of 4 v ++ bytes_of 4 (v / 4294967296)
-unfolding bytes_of
-eight_bytes v = simp (div-div-eq-div-mul)
 
 -- a byte's digits, where it stands in a number
 at_digits : (x b : ℕ) → x % 256 ≡ b % 256 → digits 2 x ≡ digits 2 b
@@ -110,39 +79,37 @@ module _ (a b c d : ℕ) (h : b < 256) (k : c < 256) (l : d < 256) where
   abbrev joined : ℕ
   joined = a * 16777216 + b * 65536 + c * 256 + d
 
-  pub four-digits : digits 8 joined ≡ hexes (a ∷ b ∷ c ∷ d ∷ [])
+  pub four_digits : digits 8 joined ≡ hexes (a ∷ b ∷ c ∷ d ∷ [])
   unfolding hexes
-  four-digits =
+  four_digits =
       let first : joined / 16777216 ≡ a = omega arith in
       let second : joined / 65536 ≡ a * 256 + b = omega arith in
       let third : joined / 256 ≡ a * 65536 + b * 256 + c = omega arith in
       eight_parts joined
       ∙ rw (first, second, third, at_digits (a * 256 + b) b (omega arith), at_digits (a * 65536 + b * 256 + c) c (omega arith), at_digits joined d (omega arith), append-nil)
 
-pub last_two : (d n : ℕ) → bytes_of 8 d ≡ digits 8 n → bytes_of 2 (d / 281474976710656) ≡ digits 2 n
-unfolding bytes_of digits
-last_two d n e =
-    let six : d / 256 / 256 / 256 / 256 / 256 / 256 ≡ d / 281474976710656 = simp (div-div-eq-div-mul) in
-    rw six at (tail-eq_of_cons-eq (tail-eq_of_cons-eq (tail-eq_of_cons-eq (tail-eq_of_cons-eq (tail-eq_of_cons-eq (tail-eq_of_cons-eq e))))))
+-- the last two of a byte's eight digits, and the last four of two bytes'
+pub last_two : (ds : List ℕ) (n : ℕ) → ds ≡ digits 8 n → get_or ds 6 0 ∷ get_or ds 7 0 ∷ 10 ∷ [] ≡ hexes (n ∷ []) ++ (10 ∷ [])
+unfolding digits hexes
+last_two ds n e = rw e
 
-pub last_four : (d n : ℕ) → bytes_of 8 d ≡ digits 8 n → bytes_of 4 (d / 4294967296) ≡ hexes (n / 256 ∷ n % 256 ∷ [])
-unfolding bytes_of digits hexes
-last_four d n e =
-    let four : d / 256 / 256 / 256 / 256 ≡ d / 4294967296 = simp (div-div-eq-div-mul) in
+pub last_four : (ds : List ℕ) (n : ℕ) → ds ≡ digits 8 n → drop 4 ds ≡ hexes (n / 256 ∷ n % 256 ∷ [])
+unfolding digits hexes
+last_four ds n e =
     let high : n / 16 % 16 ≡ n % 256 / 16 % 16 = omega arith in
     let low : n % 16 ≡ n % 256 % 16 = omega arith in
     let above : n / 16 / 16 ≡ n / 256 = omega arith in
-    rw (four, high, low, above) at (tail-eq_of_cons-eq (tail-eq_of_cons-eq (tail-eq_of_cons-eq (tail-eq_of_cons-eq e))))
+    rw (e, above, high, low)
 
 -- ---- records
 
 -- a record's text is its head, its content and its tail
-pub parts : (r : Record) (sum : ℕ) → sum ≡ total (front r)
-    → (58 ∷ hexes (length r.content ∷ r.offset / 256 ∷ r.offset % 256 ∷ r.kind ∷ [])) ++ hexes r.content ++ (hexes ((256 - sum % 256) % 256 ∷ []) ++ (10 ∷ [])) ≡ text_of r
+pub parts : (r : Record) (sum : ℕ) → sum ≡ total (front r) % 256
+    → (58 ∷ hexes (length r.content ∷ r.offset / 256 ∷ r.offset % 256 ∷ r.kind ∷ [])) ++ hexes r.content ++ (hexes ((256 - sum) % 256 ∷ []) ++ (10 ∷ [])) ≡ text_of r
 unfolding text_of all_bytes front check
 parts r sum e =
     let head = length r.content ∷ r.offset / 256 ∷ r.offset % 256 ∷ r.kind ∷ [] in
-    let last = (256 - sum % 256) % 256 ∷ [] in
+    let last = (256 - sum) % 256 ∷ [] in
     ap (λ (l : List ℕ). 58 ∷ l)
     (sym (append_assoc (hexes head ++ hexes r.content) (hexes last) (10 ∷ [])) ∙ rw (← hexes_append head r.content, ← hexes_append (head ++ r.content) last, e))
 
@@ -150,6 +117,13 @@ pub front_total : (r : Record) → total (front r) ≡ length r.content + (r.off
 unfolding front total
 front_total r = refl
 
-pub data_text : (a n : ℕ) (xs : List ℕ) (sum : ℕ) → length xs ≡ n → sum ≡ n + a % 65536 / 256 + a % 65536 % 256 + total xs
-    → (58 ∷ hexes (n ∷ a % 65536 / 256 ∷ a % 65536 % 256 ∷ 0 ∷ [])) ++ hexes xs ++ (hexes ((256 - sum % 256) % 256 ∷ []) ++ (10 ∷ [])) ≡ text_of (data_record a xs)
-data_text a n xs sum e f = rw (← e) (parts (data_record a xs) sum (omega (arith, front_total (data_record a xs))))
+pub data_text : (offset n : ℕ) (xs : List ℕ) (sum : ℕ) → offset < 65536 → length xs ≡ n → sum ≡ (n + offset / 256 + offset % 256 + total xs) % 256
+    → (58 ∷ hexes (n ∷ offset / 256 ∷ offset % 256 ∷ 0 ∷ [])) ++ hexes xs ++ (hexes ((256 - sum) % 256 ∷ []) ++ (10 ∷ [])) ≡ text_of (data_record offset xs)
+data_text offset n xs sum low e f =
+    let same : offset % 65536 ≡ offset = omega arith in
+    rw same (rw (← e) (parts (record { kind = 0; offset = offset; content = xs }) sum (omega (arith, e, front_total (record { kind = 0; offset = offset; content = xs })))))
+
+-- an address and what it is modulo 2^32 are cut and written alike
+pub cut_same : (a left : ℕ) → cut (a % 4294967296) left ≡ cut a left
+unfolding cut
+cut_same a left = let e : a % 4294967296 % 65536 ≡ a % 65536 = omega arith in rw e

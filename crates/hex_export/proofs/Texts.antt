@@ -71,14 +71,14 @@ pub record Turn (start : ℕ) (words : List ℕ) (i n most upper next : ℕ) : T
       ≡ length (texts (changed upper next)) + (2 * n + 12) + length (rest_text (less most) next (start + (i + n)) (drop (i + n) (window_bytes words)))
 
 module _ (start : ℕ) (words : List ℕ) where
-  pub text-start : (upper : ℕ) → upper ≡ upper_of start → export_of start words ≡ text_of (upper_record upper) ++ rest_text (length (window_bytes words)) upper (start + 0) (drop 0 (window_bytes words))
-  text-start upper e = rw (e, add-zero) (first_text start words)
+  pub text_start : (upper : ℕ) → upper ≡ upper_of start → export_of start words ≡ text_of (upper_record upper) ++ rest_text (length (window_bytes words)) upper (start + 0) (drop 0 (window_bytes words))
+  text_start upper e = rw (e, add-zero) (first_text start words)
 
-  pub length-start : (upper : ℕ) → upper ≡ upper_of start → length (export_of start words) ≡ 16 + length (rest_text (length (window_bytes words)) upper (start + 0) (drop 0 (window_bytes words)))
-  length-start upper e = ap length (text-start upper e) ∙ rw (length-append, length_upper)
+  pub length_start : (upper : ℕ) → upper ≡ upper_of start → length (export_of start words) ≡ 16 + length (rest_text (length (window_bytes words)) upper (start + 0) (drop 0 (window_bytes words)))
+  length_start upper e = ap length (text_start upper e) ∙ rw (length-append, length_upper)
 
-  pub text-last : (i most upper : ℕ) → 4 * length words ≤ i → rest_text most upper (start + i) (drop i (window_bytes words)) ≡ text_of end_record
-  text-last i most upper h = rw (drop_of_length-le (window_bytes words) {i = i} (omega (arith, length_bytes words))) (last_text most upper (start + i))
+  pub text_last : (i most upper : ℕ) → 4 * length words ≤ i → rest_text most upper (start + i) (drop i (window_bytes words)) ≡ text_of end_record
+  text_last i most upper h = rw (drop_of_length-le (window_bytes words) {i = i} (omega (arith, length_bytes words))) (last_text most upper (start + i))
 
   module _ (i n size most upper next : ℕ) (more : i < size) (all : size ≡ 4 * length words) (few : length (drop i (window_bytes words)) ≤ most)
       (new : next ≡ upper_of (start + i)) (cuts : n ≡ cut (start + i) (size - i)) where
@@ -88,12 +88,12 @@ module _ (start : ℕ) (words : List ℕ) where
     bounds : (0 < n) × (n ≤ 16) × (i + n ≤ size)
     bounds = let c = cut_is (start + i) (size - i) (omega arith) in (omega arith, omega arith, omega arith)
 
-    less-left : (m : ℕ) → length (drop i (window_bytes words)) ≤ m → length (drop (i + n) (window_bytes words)) ≤ less m
-    less-left zero k = absurd (omega (arith, left))
-    less-left (suc m) k = omega (arith, bounds.0, left, length-drop (i + n) (window_bytes words), length_bytes words)
+    less_left : (m : ℕ) → length (drop i (window_bytes words)) ≤ m → length (drop (i + n) (window_bytes words)) ≤ less m
+    less_left zero k = absurd (omega (arith, left))
+    less_left (suc m) k = omega (arith, bounds.0, left, length-drop (i + n) (window_bytes words), length_bytes words)
 
-    length-data : length (text_of (data_record (start + i) (take n (drop i (window_bytes words))))) ≡ 2 * n + 12
-    length-data = length_text (data_record (start + i) (take n (drop i (window_bytes words)))) ∙ rw (length-take-le n (drop i (window_bytes words)) (omega (arith, left, bounds.2)))
+    length_data : length (text_of (data_record (start + i) (take n (drop i (window_bytes words))))) ≡ 2 * n + 12
+    length_data = length_text (data_record (start + i) (take n (drop i (window_bytes words)))) ∙ rw (length-take-le n (drop i (window_bytes words)) (omega (arith, left, bounds.2)))
 
     pub turn : Turn start words i n most upper next
     turn =
@@ -104,10 +104,10 @@ module _ (start : ℕ) (words : List ℕ) where
           some = bounds.0;
           few = bounds.1;
           within = omega (arith, bounds.2);
-          left = less-left most few;
-          long = length-data;
+          left = less_left most few;
+          long = length_data;
           text = e;
-          whole = ap length e ∙ rw (length-append, length-append, length-data);
+          whole = ap length e ∙ rw (length-append, length-append, length_data);
         }
 
 -- the same by words

@@ -1,3 +1,4 @@
 pub mod Digits
 pub mod Window
 pub mod Records
+pub mod Texts

@@ -1,25 +1,31 @@
--- A text, and the record at a place of it.
-use Prim.Native.Nat.{ℕ, zero, suc, ◌+◌, ◌*◌, ◌<◌, ◌≤◌, ◌-◌, ◌/◌, ◌%◌, ◌^◌}
-use mathlib.Core.Path.{◌≡◌, refl, sym, ◌∙◌, ap}
+-- The record that a text begins with, and the text behind it.
+use Rattle.std.proofs.Common.{◌≡◌, refl, sym, ap, ◌∙◌, arith, Option, Some, None, take-take, slice_index_or}
+use Rattle.std.proofs.lemmas.List.{drop-take}
+use Rattle.std.specs.Int.{bytes_high_first}
+use Prim.Native.Nat.{ℕ, zero, suc, ◌+◌, ◌*◌, ◌<◌, ◌≤◌, ◌-◌, ◌/◌, ◌%◌}
 use mathlib.Core.Bool.{false, cond, Bool, true, true≢false, not, ◌&&◌}
 use mathlib.Core.List.{List, [], ◌∷◌, ◌++◌}
-use native.Mathlib.Omega.{arith}
 use native.Mathlib.Decide.{ℕ_discrete}
 use lib.ListN.{length, take, drop, length-drop, get_or}
-use lib.Seq.{drop-drop, get_or-drop}
+use lib.Seq.{drop-drop}
 use lib.Dec.{eqb, ltb}
 use borrow.Author.Tests.{ne_eqb, eqb-true, eq-eqb, ltb-true, lt-ltb, le-ltb}
+use Rattle.laws.proofs.Below.{both}
+use Rattle.hex_digits.specs.Hex.{all_digits, number}
+use Rattle.records.specs.Record.{total}
 use Rattle.records.specs.Load.{bytes_in, byte_in, bytes_at, kind_in, rest_of, upper_after, record_code, code_from, refused_from, said_by, said_from, digits_in, total_in, count_in, offset_in, address_in, content_in, is_kind, is_record, all_inside}
 use Rattle.records.proofs.Read.{bytes_one}
-use Rattle.records.proofs.Exactly.{in_take, in_length}
+use Rattle.records.proofs.Exactly.{in_take, in_length, byte_low}
 use Rattle.records.proofs.Steps.{less}
-use native.Mathlib.Nat.{add-zero}
-use Rattle.laws.proofs.Below.{both}
-use Rattle.hex_digits.specs.Hex.{all_digits}
-use Rattle.eight.specs.Packed.{number_or}
-use Rattle.records.specs.Record.{total}
-use Rattle.hex_load.specs.Reads.{low_bytes, none, sum_or, Head, Begins, HeadOf}
-use Rattle.hex_load.proofs.Digits.{all_part, part_not, word_low, last_read, low_sum, sum_is, sum-some}
+use Rattle.hex_load.specs.declared.Head.{Head}
+use denote.Enum.Bare.{sameb}
+use Rattle.std.specs.Option.{IsSome}
+use Rattle.std.proofs.Common.{rules}
+use Rattle.hex_load.specs.contracts.Kind.{the_type}
+use Rattle.hex_load.specs.declared.Kind.{Kind}
+use Rattle.hex_load.specs.declared.Kind.TheVariants.{Data, End, Upper}
+use Rattle.hex_load.specs.Reads.{kind_number, sum_of, Reads, Begins, HeadRead}
+use Rattle.hex_load.proofs.Digits.{all_part, part_not, last_read, split, sum_some, sum_none}
 
 -- ---- bytes
 
@@ -31,20 +37,22 @@ in_drop (suc k) (a ∷ []) = let e : 2 * suc k ≡ suc (suc (2 * k)) = omega ari
 in_drop (suc k) (a ∷ b ∷ l) = let e : 2 * suc k ≡ suc (suc (2 * k)) = omega arith in rw e (in_drop k l)
 
 -- the bytes that digits of a record stand for
-pub bytes_here : (text : List ℕ) (at k n : ℕ) → at + (2 * (k + n) + 1) ≤ length text → bytes_in (take (2 * n) (drop (at + (2 * k + 1)) text)) ≡ bytes_at (drop at text) k n
+pub bytes_here : (t : List ℕ) (k n : ℕ) → 2 * (k + n) + 1 ≤ length t → bytes_in (take (2 * n) (drop (2 * k + 1) t)) ≡ bytes_at t k n
 unfolding byte_in
-bytes_here text at k n h =
-    let e : at + (2 * k + 1) ≡ at + 1 + 2 * k = omega arith in
-    let few : k + n ≤ length (bytes_in (drop 1 (drop at text))) = in_length (k + n) (drop 1 (drop at text)) (rw (drop-drop 1 at text, length-drop) (omega arith)) in
-    in_take n (drop (at + (2 * k + 1)) text)
-    ∙ rw (e, ← drop-drop (2 * k) (at + 1) text, in_drop k (drop (at + 1) text), ← drop-drop 1 at text)
-    (sym (bytes_one (drop at text) (bytes_in (drop 1 (drop at text))) (λ i. refl) n k few))
+bytes_here t k n h =
+    let e : 2 * k + 1 ≡ 1 + 2 * k = omega arith in
+    let few : k + n ≤ length (bytes_in (drop 1 t)) = in_length (k + n) (drop 1 t) (rw length-drop (omega arith)) in
+    in_take n (drop (2 * k + 1) t) ∙ rw (e, ← drop-drop (2 * k) 1 t, in_drop k (drop 1 t)) (sym (bytes_one t (bytes_in (drop 1 t)) (λ i. refl) n k few))
 
 -- ---- records
 
 pub rest_less : (t : List ℕ) (g : ℕ) → 0 < length t → length t ≤ g → length (rest_of t) ≤ less g
 rest_less t zero h k = absurd (omega arith)
 rest_less t (suc g) h k = rw length-drop (omega arith)
+
+pub length_none : (t : List ℕ) → length t ≡ 0 → t ≡ []
+length_none [] e = refl
+length_none (b ∷ t) e = absurd (omega (arith, e))
 
 pub code_none : (g start words upper : ℕ) → code_from g start words upper [] ≡ 19
 unfolding code_from
@@ -60,37 +68,37 @@ module _ (start words upper : ℕ) (t : List ℕ) (some : 0 < length t) where
   full : eqb (length t) 0 ≡ false
   full = ne_eqb (length t) 0 (λ e. omega (arith, e))
 
-  pub code-refused : (g : ℕ) → length t ≤ g → (record_code start words upper t ≡ 0 → ⊥) → code_from g start words upper t ≡ record_code start words upper t
+  pub code_refused : (g : ℕ) → length t ≤ g → (record_code start words upper t ≡ 0 → ⊥) → code_from g start words upper t ≡ record_code start words upper t
   unfolding code_from
-  code-refused zero h e = absurd (omega arith)
-  code-refused (suc g) h e = rw (full, ne_eqb (record_code start words upper t) 0 e)
+  code_refused zero h e = absurd (omega arith)
+  code_refused (suc g) h e = rw (full, ne_eqb (record_code start words upper t) 0 e)
 
-  pub code-ended : (g : ℕ) → length t ≤ g → record_code start words upper t ≡ 0 → kind_in t ≡ 1 → code_from g start words upper t ≡ cond (eqb (length (rest_of t)) 0) 0 19
+  pub code_ended : (g : ℕ) → length t ≤ g → record_code start words upper t ≡ 0 → kind_in t ≡ 1 → code_from g start words upper t ≡ cond (eqb (length (rest_of t)) 0) 0 19
   unfolding code_from
-  code-ended zero h e k = absurd (omega arith)
-  code-ended (suc g) h e k = rw (full, e, k)
+  code_ended zero h e k = absurd (omega arith)
+  code_ended (suc g) h e k = rw (full, e, k)
 
-  pub code-more : (g : ℕ) → length t ≤ g → record_code start words upper t ≡ 0 → (kind_in t ≡ 1 → ⊥) → code_from g start words upper t ≡ code_from (less g) start words (upper_after upper t) (rest_of t)
+  pub code_more : (g : ℕ) → length t ≤ g → record_code start words upper t ≡ 0 → (kind_in t ≡ 1 → ⊥) → code_from g start words upper t ≡ code_from (less g) start words (upper_after upper t) (rest_of t)
   unfolding code_from
-  code-more zero h e k = absurd (omega arith)
-  code-more (suc g) h e k = rw (full, e, ne_eqb (kind_in t) 1 k)
+  code_more zero h e k = absurd (omega arith)
+  code_more (suc g) h e k = rw (full, e, ne_eqb (kind_in t) 1 k)
 
   -- the place of what the code is told of
-  pub place-refused : (g : ℕ) → length t ≤ g → (record_code start words upper t ≡ 0 → ⊥) → refused_from g start words upper t ≡ 0
+  pub place_refused : (g : ℕ) → length t ≤ g → (record_code start words upper t ≡ 0 → ⊥) → refused_from g start words upper t ≡ 0
   unfolding refused_from
-  place-refused zero h e = absurd (omega arith)
-  place-refused (suc g) h e = rw (full, ne_eqb (record_code start words upper t) 0 e)
+  place_refused zero h e = absurd (omega arith)
+  place_refused (suc g) h e = rw (full, ne_eqb (record_code start words upper t) 0 e)
 
-  pub place-ended : (g : ℕ) → length t ≤ g → record_code start words upper t ≡ 0 → kind_in t ≡ 1 → refused_from g start words upper t ≡ digits_in t + 2 + 0
+  pub place_ended : (g : ℕ) → length t ≤ g → record_code start words upper t ≡ 0 → kind_in t ≡ 1 → refused_from g start words upper t ≡ digits_in t + 2 + 0
   unfolding refused_from
-  place-ended zero h e k = absurd (omega arith)
-  place-ended (suc g) h e k = rw (full, e, k)
+  place_ended zero h e k = absurd (omega arith)
+  place_ended (suc g) h e k = rw (full, e, k)
 
-  pub place-more : (g : ℕ) → length t ≤ g → record_code start words upper t ≡ 0 → (kind_in t ≡ 1 → ⊥)
+  pub place_more : (g : ℕ) → length t ≤ g → record_code start words upper t ≡ 0 → (kind_in t ≡ 1 → ⊥)
       → refused_from g start words upper t ≡ digits_in t + 2 + refused_from (less g) start words (upper_after upper t) (rest_of t)
   unfolding refused_from
-  place-more zero h e k = absurd (omega arith)
-  place-more (suc g) h e k = rw (full, e, ne_eqb (kind_in t) 1 k)
+  place_more zero h e k = absurd (omega arith)
+  place_more (suc g) h e k = rw (full, e, ne_eqb (kind_in t) 1 k)
 
   pub said_more : (g : ℕ) → length t ≤ g → said_from g upper t ≡ said_by upper t ++ said_from (less g) (upper_after upper t) (rest_of t)
   unfolding said_from
@@ -98,188 +106,177 @@ module _ (start words upper : ℕ) (t : List ℕ) (some : 0 < length t) where
   said_more (suc g) h = rw full
 
   -- where no code applies, none applies to the first record, nor to the rest
-  pub good-step : (g : ℕ) → length t ≤ g → code_from g start words upper t ≡ 0
+  pub good_step : (g : ℕ) → length t ≤ g → code_from g start words upper t ≡ 0
       → (record_code start words upper t ≡ 0) × (0 < length (rest_of t) → code_from (less g) start words (upper_after upper t) (rest_of t) ≡ 0)
   unfolding code_from
-  good-step zero h e = absurd (omega arith)
-  good-step (suc g) h e = by (ℕ_discrete (record_code start words upper t) 0) (ℕ_discrete (kind_in t) 1)
+  good_step zero h e = absurd (omega arith)
+  good_step (suc g) h e = by (ℕ_discrete (record_code start words upper t) 0) (ℕ_discrete (kind_in t) 1)
     where
       by : Dec (record_code start words upper t ≡ 0) → Dec (kind_in t ≡ 1) → (record_code start words upper t ≡ 0) × (0 < length (rest_of t) → code_from g start words (upper_after upper t) (rest_of t) ≡ 0)
-      by (no n) k = absurd (n (sym (code-refused (suc g) h n) ∙ e))
-      by (yes z) (no n) = (z, λ m. sym (code-more (suc g) h z n) ∙ e)
-      by (yes z) (yes k) = (z, λ m. let w : ◌≡◌ {A = ℕ} 19 0 = sym (code-ended (suc g) h z k ∙ rw (ne_eqb (length (rest_of t)) 0 (λ q. omega (arith, q)))) ∙ e in absurd (omega (arith, w)))
+      by (no n) k = absurd (n (sym (code_refused (suc g) h n) ∙ e))
+      by (yes z) (no n) = (z, λ m. sym (code_more (suc g) h z n) ∙ e)
+      by (yes z) (yes k) = (z, λ m. let w : ◌≡◌ {A = ℕ} 19 0 = sym (code_ended (suc g) h z k ∙ rw (ne_eqb (length (rest_of t)) 0 (λ q. omega (arith, q)))) ∙ e in absurd (omega (arith, w)))
 
 -- ---- its first four bytes
 
-two : (q : ℕ) → q % 65536 ≡ q / 256 % 256 * 256 + q % 256
-two q = omega arith
+-- two bytes as a number, and back
+pub two_bytes : (a b : ℕ) → a < 256 → b < 256 → ((a * 256 + b) / 256 ≡ a) × ((a * 256 + b) % 256 ≡ b)
+two_bytes a b h k = (omega arith, omega arith)
 
-module _ (text : List ℕ) (at h : ℕ) (fits : at + 9 ≤ length text) (is : h ≡ number_or (take 8 (drop (at + 1) text))) (all : all_digits (take 8 (drop (at + 1) text)) ≡ true) where
-  low : h < 4294967296
-  low = word_low text (at + 1) h (omega arith) is all
+module _ (t : List ℕ) (fits : 9 ≤ length t) (all : all_digits (take 8 (drop 1 t)) ≡ true) where
+  pub four_bytes : bytes_high_first 4 (number (take 8 (drop 1 t))) ≡ byte_in t 0 ∷ byte_in t 1 ∷ byte_in t 2 ∷ byte_in t 3 ∷ []
+  unfolding bytes_at
+  four_bytes = last_read t 9 4 (omega arith) (omega arith) fits all ∙ bytes_here t 0 4 fits
 
-  four_bytes : low_bytes 4 h ≡ bytes_in (take 8 (drop (at + 1) text))
-  four_bytes = let e : at + 1 + 2 * 4 - 8 ≡ at + 1 = omega arith in last_read text (at + 1) 4 h (omega arith) (omega arith) (omega arith) (rw e all) (rw e is)
-
-  pub head_of : Head (drop at text) h
-  unfolding low_bytes bytes_at
-  head_of =
-      let e = four_bytes ∙ bytes_here text at 0 4 (omega arith) in
-      let a : h / 16777216 % 256 ≡ byte_in (drop at text) 0 = ap (λ (l : List ℕ). get_or l 0 0) e in
-      let b : h / 65536 % 256 ≡ byte_in (drop at text) 1 = ap (λ (l : List ℕ). get_or l 1 0) e in
-      let c : h / 256 % 256 ≡ byte_in (drop at text) 2 = ap (λ (l : List ℕ). get_or l 2 0) e in
-      let d : h / 1 % 256 ≡ byte_in (drop at text) 3 = ap (λ (l : List ℕ). get_or l 3 0) e in
-      let l = low in
-      let up : h / 65536 ≡ h / 256 / 256 = omega arith in
-      record { counts = omega (arith, a); offsets = two (h / 256) ∙ rw (← up, b, c); kinds = omega (arith, d) }
-
-  head-sums : (h + h / 256 + h / 65536 + h / 16777216) % 256 ≡ sum_or (take 8 (drop 1 (drop at text)))
-  head-sums =
-      let same : h * 2 ^ (8 * (4 - 4)) % 18446744073709551616 % 4294967296 ≡ h = let l = low in omega arith in
-      rw (drop-drop 1 at text) (rw same at (low_sum 4 h (omega arith)) ∙ ap (λ (l : List ℕ). total l % 256) four_bytes ∙ sym (sum_is (take 8 (drop (at + 1) text)) all))
+module _ (t : List ℕ) (fits : 9 ≤ length t) (all : all_digits (take 8 (drop 1 t)) ≡ true) (bs : List ℕ) (offset : ℕ) (are : bs ≡ bytes_high_first 4 (number (take 8 (drop 1 t))))
+    (is : offset ≡ slice_index_or bs 1 0 * 256 + slice_index_or bs 2 0) where
+  pub head_says : (slice_index_or bs 0 0 ≡ count_in t) × (offset ≡ offset_in t) × (slice_index_or bs 3 0 ≡ kind_in t)
+  head_says =
+      let e : bs ≡ byte_in t 0 ∷ byte_in t 1 ∷ byte_in t 2 ∷ byte_in t 3 ∷ [] = are ∙ four_bytes t fits all in
+      rw (is, e) (refl, refl, refl)
 
 -- ---- whether it is a record
 
-pub frame_short : (t : List ℕ) → length t ≤ digits_in t + 1 → is_record t ≡ false
+pub short_not : (t : List ℕ) → length t ≤ digits_in t + 1 → is_record t ≡ false
 unfolding is_record
-frame_short t h = rw (le-ltb (digits_in t + 1) (length t) h)
+short_not t h = rw (le-ltb (digits_in t + 1) (length t) h)
 
-module _ (text : List ℕ) (at n : ℕ) (count : n ≡ byte_in (drop at text) 0) where
-  abbrev digits : Bool
-  digits = all_digits (take (2 * n + 10) (drop (at + 1) text))
+second_not : (a : Bool) → (a && false) ≡ false
+second_not false = refl
+second_not true = refl
 
-  -- the five tests, by places of the text
-  by_place : is_record (drop at text) ≡ ((ltb (2 * n + 10 + 1) (length (drop at text)) && eqb (get_or text at 0) 58) && ((digits && eqb (get_or text (at + (2 * n + 10 + 1)) 0) 10) && is_kind (kind_in (drop at text)) n (offset_in (drop at text))))
-  unfolding is_record
-  by_place = rw (← count, drop-drop 1 at text, get_or-drop at text 0 0, get_or-drop at text (2 * n + 10 + 1) 0, add-zero)
+-- the first eight digits are among its digits
+pub head_not : (t : List ℕ) → all_digits (take 8 (drop 1 t)) ≡ false → is_record t ≡ false
+unfolding is_record
+head_not t e =
+    let d = take (digits_in t) (drop 1 t) in
+    let first : take 8 (drop 0 d) ≡ take 8 (drop 1 t) = take-take 8 (digits_in t) (drop 1 t) (omega arith) in
+    rw (part_not 8 0 d (rw first e)) (second_not (ltb (digits_in t + 1) (length t) && eqb (get_or t 0 0) 58))
 
-  pub head-not : all_digits (take 8 (drop (at + 1) text)) ≡ false → is_record (drop at text) ≡ false
-  head-not e = by_place ∙ rw (part_not 0 8 (2 * n + 10) (at + 1) text (omega arith) (rw add-zero e)) (second (ltb (2 * n + 10 + 1) (length (drop at text)) && eqb (get_or text at 0) 58))
-    where
-      second : (a : Bool) → (a && false) ≡ false
-      second false = refl
-      second true = refl
+pub kind_not : (t : List ℕ) → is_kind (kind_in t) (count_in t) (offset_in t) ≡ false → is_record t ≡ false
+unfolding is_record
+kind_not t e = rw e (second (ltb (digits_in t + 1) (length t) && eqb (get_or t 0 0) 58) (all_digits (take (digits_in t) (drop 1 t))) (eqb (get_or t (digits_in t + 1) 0) 10))
+  where
+    second : (a b c : Bool) → (a && ((b && c) && false)) ≡ false
+    second false b c = refl
+    second true false c = refl
+    second true true false = refl
+    second true true true = refl
 
-  -- with all of them but the digits
-  module _ (long : 2 * n + 10 + 1 < length (drop at text)) (kind : Bool) (typed : kind ≡ is_kind (kind_in (drop at text)) n (offset_in (drop at text))) where
-    abbrev t : Bool
-    t = (eqb (get_or text at 0) 58 && eqb (get_or text (at + (2 * n + 10 + 1)) 0) 10) && kind
+-- with all of the tests but the digits
+pub framed : (t : List ℕ) → digits_in t + 1 < length t → is_kind (kind_in t) (count_in t) (offset_in t) ≡ true
+    → is_record t ≡ ((eqb (get_or t 0 0) 58 && eqb (get_or t (digits_in t + 1) 0) 10) && all_digits (take (digits_in t) (drop 1 t)))
+unfolding is_record
+framed t h e = rw (e, lt-ltb (digits_in t + 1) (length t) h) (turn (eqb (get_or t 0 0) 58) (all_digits (take (digits_in t) (drop 1 t))) (eqb (get_or t (digits_in t + 1) 0) 10))
+  where
+    turn : (b c d : Bool) → (b && ((c && d) && true)) ≡ ((b && d) && c)
+    turn false c d = refl
+    turn true false false = refl
+    turn true false true = refl
+    turn true true false = refl
+    turn true true true = refl
 
-    all_but : is_record (drop at text) ≡ (t && digits)
-    all_but = by_place ∙ rw (lt-ltb (2 * n + 10 + 1) (length (drop at text)) long, typed) (turn (eqb (get_or text at 0) 58) digits (eqb (get_or text (at + (2 * n + 10 + 1)) 0) 10) (is_kind (kind_in (drop at text)) n (offset_in (drop at text))))
-      where
-        turn : (a b c d : Bool) → (a && ((b && c) && d)) ≡ (((a && c) && d) && b)
-        turn false b c d = refl
-        turn true false false d = refl
-        turn true false true false = refl
-        turn true false true true = refl
-        turn true true false d = refl
-        turn true true true false = refl
-        turn true true true true = refl
-
-    pub frame-not : t ≡ false → is_record (drop at text) ≡ false
-    frame-not e = all_but ∙ rw e
-
-    framed : t ≡ true → is_record (drop at text) ≡ all_digits (take (digits_in (drop at text)) (drop 1 (drop at text)))
-    framed e = all_but ∙ rw (e, count, drop-drop 1 at text)
-
-    pub some_of : (h : ℕ) → at + 9 ≤ length text → h ≡ number_or (take 8 (drop (at + 1) text)) → all_digits (take 8 (drop (at + 1) text)) ≡ true → t ≡ true → HeadOf (drop at text) h
-    some_of h fits is all e = record {
-      no = λ z. absurd (let l = low text at h fits is all in omega (arith, z));
-      yes = λ n. record { head = head_of text at h fits is all; low = low text at h fits is all; sums = head-sums text at h fits is all; fits = rw (← count) long; digits = framed e };
-    }
-
-pub none_of : (t : List ℕ) → is_record t ≡ false → HeadOf t 4294967296
-none_of t e = record { no = λ z. e; yes = λ n. absurd (n refl) }
+part_of : (n i m : ℕ) (s : List ℕ) → i + n ≤ m → take n (drop i (take m s)) ≡ take n (drop i s)
+part_of n i m s h = let e : m ≡ i + (m - i) = omega arith in rw (e, drop-take i (m - i) s) (take-take n (m - i) (drop i s) (omega arith))
 
 -- ---- what a record has
 
-module _ (text : List ℕ) (at : ℕ) (is : is_record (drop at text) ≡ true) where
-  abbrev count : ℕ
-  count = byte_in (drop at text) 0
+module _ (t : List ℕ) (is : is_record t ≡ true) where
+  tests : ((ltb (digits_in t + 1) (length t) && eqb (get_or t 0 0) 58) ≡ true)
+      × (((all_digits (take (digits_in t) (drop 1 t)) && eqb (get_or t (digits_in t + 1) 0) 10) && is_kind (kind_in t) (count_in t) (offset_in t)) ≡ true)
+  unfolding is_record
+  tests = both _ _ is
 
-  tests : ((ltb (2 * count + 10 + 1) (length (drop at text)) && eqb (get_or text at 0) 58) ≡ true)
-      × (((all_digits (take (2 * count + 10) (drop (at + 1) text)) && eqb (get_or text (at + (2 * count + 10 + 1)) 0) 10) && is_kind (kind_in (drop at text)) count (offset_in (drop at text))) ≡ true)
-  tests = both _ _ (sym (by_place text at count refl) ∙ is)
+  pub record_fits : digits_in t + 2 ≤ length t
+  record_fits = omega (arith, ltb-true (digits_in t + 1) (length t) (both (ltb (digits_in t + 1) (length t)) _ tests.0).0)
 
-  pub record-fits : at + (2 * count + 12) ≤ length text
-  record-fits = omega (arith, ltb-true (2 * count + 10 + 1) (length (drop at text)) (both (ltb (2 * count + 10 + 1) (length (drop at text))) _ tests.0).0, length-drop at text)
+  pub record_digits : all_digits (take (digits_in t) (drop 1 t)) ≡ true
+  record_digits = (both (all_digits (take (digits_in t) (drop 1 t))) _ (both _ _ tests.1).0).0
 
   -- n digits from digit i on
-  pub digits_from : (i n : ℕ) → i + n ≤ 2 * count + 10 → all_digits (take n (drop (at + 1 + i) text)) ≡ true
-  digits_from i n h = all_part i n (2 * count + 10) (at + 1) text h (both (all_digits (take (2 * count + 10) (drop (at + 1) text))) _ (both _ _ tests.1).0).0
+  pub digits_from : (i n : ℕ) → i + n ≤ digits_in t → all_digits (take n (drop (1 + i) t)) ≡ true
+  digits_from i n h =
+      let e : take n (drop i (take (digits_in t) (drop 1 t))) ≡ take n (drop (1 + i) t) = part_of n i (digits_in t) (drop 1 t) h ∙ rw (drop-drop i 1 t) in
+      rw e at (all_part n i (take (digits_in t) (drop 1 t)) record_digits)
 
-  pub content-bytes : content_in (drop at text) ≡ bytes_in (take (2 * count) (drop (at + 9) text))
+  pub content_bytes : content_in t ≡ bytes_in (take (2 * count_in t) (drop 9 t))
   unfolding content_in
-  content-bytes = sym (bytes_here text at 4 count (omega (arith, record-fits)))
+  content_bytes = sym (bytes_here t 4 (count_in t) (omega (arith, record_fits)))
 
-  pub upper-count : kind_in (drop at text) ≡ 4 → count ≡ 2
+  pub upper_count : kind_in t ≡ 4 → count_in t ≡ 2
   unfolding is_kind
-  upper-count e =
-      let k = (both (all_digits (take (2 * count + 10) (drop (at + 1) text)) && eqb (get_or text (at + (2 * count + 10 + 1)) 0) 10) _ tests.1).1 in
-      let k' : (eqb (offset_in (drop at text)) 0 && eqb count 2) ≡ true = rw e at k in
-      eqb-true count 2 (both (eqb (offset_in (drop at text)) 0) (eqb count 2) k').1
+  upper_count e =
+      let k = (both (all_digits (take (digits_in t) (drop 1 t)) && eqb (get_or t (digits_in t + 1) 0) 10) _ tests.1).1 in
+      let k' : (eqb (offset_in t) 0 && eqb (count_in t) 2) ≡ true = rw e at k in
+      eqb-true (count_in t) 2 (both (eqb (offset_in t) 0) (eqb (count_in t) 2) k').1
 
   -- its upper bits, read with the four digits before them
-  pub upper-read : (w : ℕ) → kind_in (drop at text) ≡ 4 → w ≡ number_or (take 8 (drop (at + 5) text)) → w % 65536 ≡ byte_in (drop at text) 4 * 256 + byte_in (drop at text) 5
-  unfolding low_bytes bytes_at
-  upper-read w k e =
-      let fits : at + 16 ≤ length text = omega (arith, record-fits, upper-count k) in
-      let place : at + 9 + 2 * 2 - 8 ≡ at + 5 = omega arith in
-      let there : at + 1 + 4 ≡ at + 5 = omega arith in
-      let digits = rw there at (digits_from 4 8 (omega (arith, upper-count k))) in
-      let read = last_read text (at + 9) 2 w (omega arith) (omega arith) (omega arith) (rw place digits) (rw place e) ∙ bytes_here text at 4 2 (omega arith) in
-      let first : w / 256 % 256 ≡ byte_in (drop at text) 4 = ap (λ (l : List ℕ). get_or l 0 0) read in
-      let second : w / 1 % 256 ≡ byte_in (drop at text) 5 = ap (λ (l : List ℕ). get_or l 1 0) read in
-      omega (arith, two w, first, second)
+  pub upper_read : kind_in t ≡ 4 → number (take 8 (drop 5 t)) % 65536 ≡ byte_in t 4 * 256 + byte_in t 5
+  unfolding bytes_at
+  upper_read k =
+      let w = number (take 8 (drop 5 t)) in
+      let read = last_read t 13 2 (omega arith) (omega arith) (omega (arith, record_fits, upper_count k)) (digits_from 4 8 (omega (arith, upper_count k))) ∙ bytes_here t 4 2 (omega (arith, record_fits, upper_count k)) in
+      let first : w / 256 % 256 ≡ byte_in t 4 = ap (λ (l : List ℕ). get_or l 0 0) read in
+      let second : w % 256 ≡ byte_in t 5 = ap (λ (l : List ℕ). get_or l 1 0) read in
+      omega (arith, first, second)
 
--- by the number that holds its first four bytes
-pub record Taken (text : List ℕ) (at h : ℕ) : Type 0 where
-  pub is : is_record (drop at text) ≡ true
-  pub head : Head (drop at text) h
-  pub ends : at + (2 * (h / 16777216) + 12) ≤ length text
-  pub rest : rest_of (drop at text) ≡ drop (at + (2 * (h / 16777216) + 10 + 2)) text
+-- its text, by its head
+pub record_ends : (t : List ℕ) (h : Head) (n : ℕ) → is_record t ≡ true → Reads t h → n ≡ 2 * h.count + 12 → (n ≤ length t) × (drop n t ≡ rest_of t) × (n ≡ digits_in t + 2)
+record_ends t h n is r e =
+    let f : n ≡ digits_in t + 2 = omega (arith, r.counts) in
+    (omega (arith, record_fits t is), ap (λ (k : ℕ). drop k t) f, f)
 
-pub taken : (text : List ℕ) (at h : ℕ) → is_record (drop at text) ≡ true → Head (drop at text) h → Taken text at h
-taken text at h e s = record {
-  is = e;
-  head = s;
-  ends = omega (arith, s.counts, record-fits text at e);
-  rest = drop-drop (2 * byte_in (drop at text) 0 + 10 + 2) at text ∙ rw (← s.counts);
-}
+pub rest_fits : (t : List ℕ) → is_record t ≡ true → length (rest_of t) + (digits_in t + 2) ≡ length t
+rest_fits t is = rw length-drop (omega (arith, record_fits t is))
 
-pub taken_read : (text : List ℕ) (at h : ℕ) → is_record (drop at text) ≡ true → h ≡ number_or (take 8 (drop (at + 1) text)) → Taken text at h
-taken_read text at h e is =
-    let here : at + 1 + 0 ≡ at + 1 = omega arith in
-    taken text at h e (head_of text at h (omega (arith, record-fits text at e)) is (rw here at (digits_from text at e 0 8 (omega arith))))
+-- a head is read of a record
+pub head_some : (t : List ℕ) (o : Option Head) → is_record t ≡ true → HeadRead t o → IsSome o
+head_some t (Some h) is r = search rules
+head_some t None is r = absurd (true≢false (sym is ∙ r))
+
+-- its type, tested
+pub is_data : (k : Kind) → sameb the_type k Data ≡ eqb (kind_number k) 0
+is_data Data = refl
+is_data End = refl
+is_data Upper = refl
+
+pub is_end : (k : Kind) → sameb the_type k End ≡ eqb (kind_number k) 1
+is_end Data = refl
+is_end End = refl
+is_end Upper = refl
 
 -- ---- the sum of its bytes, and its code
 
-module _ (text : List ℕ) (at h n sum : ℕ) (begins : Begins (drop at text) h) (count : n ≡ count_in (drop at text)) (is : sum ≡ sum_or (take (2 * (n + 5)) (drop (at + 1) text))) where
-  abbrev all : List ℕ
-  all = take (2 * (n + 5)) (drop (at + 1) text)
+module _ (t : List ℕ) (h : Head) (begins : Begins t h) where
+  abbrev digits : List ℕ
+  digits = take (digits_in t) (drop 1 t)
 
-  same : is_record (drop at text) ≡ all_digits all
-  same = let e : digits_in (drop at text) ≡ 2 * (n + 5) = omega (arith, count) in begins.digits ∙ rw (e, drop-drop 1 at text)
-
-  pub sum-none : sum ≡ none → is_record (drop at text) ≡ false
-  sum-none e = same ∙ by (all_digits all) refl
+  same : is_record t ≡ all_digits (drop 8 digits)
+  same = begins.digits ∙ split 8 digits ∙ rw (first, begins.some)
     where
-      by : (t : Bool) → all_digits all ≡ t → all_digits all ≡ false
-      by false f = f
-      by true f = absurd (omega (arith, is, sum_is all f))
+      first : take 8 digits ≡ take 8 (drop 1 t)
+      first = take-take 8 (digits_in t) (drop 1 t) (omega arith)
 
-  pub sum-says : (sum ≡ none → ⊥) → (is_record (drop at text) ≡ true) × (sum ≡ total_in (drop at text) % 256)
-  unfolding total_in
-  sum-says e =
-      let d = sum-some all (λ z. e (is ∙ z)) in
-      let fits : at + (2 * (0 + (n + 5)) + 1) ≤ length text = omega (arith, count, begins.fits, length-drop at text) in
-      (same ∙ d, is ∙ sum_is all d ∙ rw (← count) (ap (λ (l : List ℕ). total l % 256) (bytes_here text at 0 (n + 5) fits)))
+  pub sum_no : ◌≡◌ {A = Option ℕ} None (sum_of (drop 8 digits)) → is_record t ≡ false
+  sum_no e = same ∙ sum_none (drop 8 digits) e
+
+  pub sum_says : (s : ℕ) → Some s ≡ sum_of (drop 8 digits) → (is_record t ≡ true) × ((h.count + h.offset / 256 + h.offset % 256 + kind_number h.kind) % 256 + s) % 256 ≡ total_in t % 256
+  unfolding total_in bytes_at total
+  sum_says s e =
+      let d = sum_some (drop 8 digits) s e in
+      let n = count_in t in
+      let five : n + 5 ≡ suc (suc (suc (suc (n + 1)))) = omega arith in
+      let places : digits_in t ≡ 8 + 2 * (n + 1) = omega arith in
+      let long = begins.fits in
+      let there : bytes_in (drop 8 digits) ≡ bytes_at t 4 (n + 1) = rw (places, drop-take 8 (2 * (n + 1)) (drop 1 t), drop-drop 8 1 t) (bytes_here t 4 (n + 1) (omega arith)) in
+      let r = begins.reads in
+      let sum : s ≡ total (bytes_at t 4 (n + 1)) % 256 = d.1 ∙ ap (λ (l : List ℕ). total l % 256) there in
+      (same ∙ d.0, rw (five) (omega (arith, r.counts, r.offsets, r.kinds, byte_low t 0, byte_low t 1, byte_low t 2, byte_low t 3, sum)))
 
 module _ (start words upper : ℕ) (t : List ℕ) where
-  pub not-record : is_record t ≡ false → record_code start words upper t ≡ 16
+  pub not_record : is_record t ≡ false → record_code start words upper t ≡ 16
   unfolding record_code
-  not-record e = rw e
+  not_record e = rw e
 
   pub bad_sum : is_record t ≡ true → (total_in t % 256 ≡ 0 → ⊥) → record_code start words upper t ≡ 17
   unfolding record_code
@@ -290,9 +287,9 @@ module _ (start words upper : ℕ) (t : List ℕ) where
   last_code is e = rw (is, e)
 
   -- a record of no code is one, and its bytes are in the window
-  pub code-says : record_code start words upper t ≡ 0 → (is_record t ≡ true) × (kind_in t ≡ 0 → all_inside start words (address_in upper t) (count_in t) ≡ true)
+  pub code_says : record_code start words upper t ≡ 0 → (is_record t ≡ true) × (kind_in t ≡ 0 → all_inside start words (address_in upper t) (count_in t) ≡ true)
   unfolding record_code
-  code-says e =
+  code_says e =
       let p = by (is_record t) (eqb (total_in t % 256) 0) (eqb (kind_in t) 0) (all_inside start words (address_in upper t) (count_in t)) e in
       (p.0, λ k. p.1 (eq-eqb (kind_in t) 0 k))
     where

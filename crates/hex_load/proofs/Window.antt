@@ -6,14 +6,16 @@ use mathlib.Core.List.{List, [], ◌∷◌, ◌++◌}
 use borrow.Author.Tests.{ltb-true, ltb-false, le-ltb}
 use native.Mathlib.Omega.{arith}
 use lib.ListN.{length, get_or, set, drop, length-set, take}
-use lib.Seq.{sets, set-append_left}
+use lib.Seq.{sets, set-append_left, drop-drop}
 use lib.Dec.{ltb, eqb}
 use Rattle.machine.specs.Window.{place_of, inside}
-use Rattle.eight.specs.Packed.{Each, number_or}
+use Rattle.eight.specs.Packed.{Each}
 use Rattle.records.specs.Window.{window_bytes, byte_place}
 use Rattle.records.specs.Load.{Said, all_inside, stored, bytes_in, bytes_at, kind_in, count_in, address_in, content_in, run, said_by}
-use Rattle.hex_load.specs.Reads.{low_bytes}
-use Rattle.hex_load.proofs.Digits.{whole, low_last, take_split, there, all_part, in_append, many_read, last_read}
+use Rattle.std.proofs.lemmas.List.{take-append-drop}
+use Rattle.std.specs.Int.{bytes_high_first}
+use Rattle.hex_digits.specs.Hex.{number}
+use Rattle.hex_load.proofs.Digits.{there, all_part, in_append, in_long, last_read}
 use Rattle.laws.proofs.Stores.{sets_append}
 use Rattle.hex_digits.specs.Hex.{all_digits}
 use Rattle.records.proofs.Promises.{run_same, stored_run}
@@ -29,6 +31,26 @@ bytes_joined a b c d x e is =
     let r : (c + 256 * d) % 256 ≡ c = omega arith in
     let s : d % 256 ≡ d = omega arith in
     rw (second, third, fourth, p, q, r, s)
+
+-- a number is its four lowest bytes, and what is above them
+whole : (w : ℕ) → w ≡ w % 256 + 256 * (w / 256 % 256) + 65536 * (w / 65536 % 256) + 16777216 * (w / 16777216 % 256) + 4294967296 * (w / 4294967296)
+whole w =
+    let second : w / 65536 ≡ w / 256 / 256 = omega arith in
+    let third : w / 16777216 ≡ w / 256 / 256 / 256 = omega arith in
+    let fourth : w / 4294967296 ≡ w / 256 / 256 / 256 / 256 = omega arith in
+    rw (second, third, fourth) (by (w / 256) (w / 256 / 256) (w / 256 / 256 / 256) (w / 256 / 256 / 256 / 256) (omega arith) (omega arith) (omega arith) (omega arith))
+  where
+    by : (x y z u : ℕ) → w ≡ w % 256 + 256 * x → x ≡ x % 256 + 256 * y → y ≡ y % 256 + 256 * z → z ≡ z % 256 + 256 * u
+        → w ≡ w % 256 + 256 * (x % 256) + 65536 * (y % 256) + 16777216 * (z % 256) + 4294967296 * u
+    by x y z u a b c d = omega arith
+
+low_last : (w m : ℕ) → m ≤ 4 → bytes_high_first m w ≡ drop (4 - m) (bytes_high_first 4 w)
+low_last w zero h = refl
+low_last w (suc zero) h = refl
+low_last w (suc (suc zero)) h = refl
+low_last w (suc (suc (suc zero))) h = refl
+low_last w (suc (suc (suc (suc zero)))) h = refl
+low_last w (suc (suc (suc (suc (suc m))))) h = absurd (omega arith)
 
 -- ---- bytes put into a word
 
@@ -75,18 +97,18 @@ module _ (a b c d e f g h old s : ℕ) (low : Each 256 (a ∷ b ∷ c ∷ d ∷ 
 
 -- a number's lowest four bytes in the other order
 module _ (w s : ℕ) (is : s ≡ w % 256 * 16777216 + w / 256 % 256 * 65536 + w / 65536 % 256 * 256 + w / 16777216 % 256) where
-  swapped-is : s ≡ w / 2 ^ (8 * 3) % 256 + 256 * (w / 2 ^ (8 * 2) % 256) + 65536 * (w / 2 ^ (8 * 1) % 256) + 16777216 * (w / 2 ^ (8 * 0) % 256)
-  swapped-is = omega arith
+  swapped_is : s ≡ w / 16777216 % 256 + 256 * (w / 65536 % 256) + 65536 * (w / 256 % 256) + 16777216 * (w % 256)
+  swapped_is = omega arith
 
-  pub whole_set : (old k m : ℕ) → m ≡ 4 → k ≡ 0 → window_bytes (s ∷ []) ≡ sets (window_bytes (old ∷ [])) k (low_bytes m w)
-  unfolding window_bytes low_bytes
-  whole_set old k m e z = rw (e, z) (bytes_joined _ _ _ _ s (omega arith, (omega arith, (omega arith, (omega arith, tt)))) swapped-is)
+  pub whole_set : (old k m : ℕ) → m ≡ 4 → k ≡ 0 → window_bytes (s ∷ []) ≡ sets (window_bytes (old ∷ [])) k (bytes_high_first m w)
+  unfolding window_bytes
+  whole_set old k m e z = rw (e, z) (bytes_joined _ _ _ _ s (omega arith, (omega arith, (omega arith, (omega arith, tt)))) swapped_is)
 
-  pub put-bytes : (old k m : ℕ) → old < 4294967296 → k + m ≤ 4 → 0 < m → (m ≡ 4 → ⊥) → Part old s k m (sets (window_bytes (old ∷ [])) k (low_bytes m w))
-  unfolding window_bytes low_bytes
-  put-bytes old k m fits h i n =
+  pub put_bytes : (old k m : ℕ) → old < 4294967296 → k + m ≤ 4 → 0 < m → (m ≡ 4 → ⊥) → Part old s k m (sets (window_bytes (old ∷ [])) k (bytes_high_first m w))
+  unfolding window_bytes
+  put_bytes old k m fits h i n =
       rw (low_last w m (omega arith))
-      (part _ _ _ _ _ _ _ _ old s (omega arith, (omega arith, (omega arith, (omega arith, (omega arith, (omega arith, (omega arith, (omega arith, tt)))))))) (omega (arith, whole old)) swapped-is k m h i n)
+      (part _ _ _ _ _ _ _ _ old s (omega arith, (omega arith, (omega arith, (omega arith, (omega arith, (omega arith, (omega arith, (omega arith, tt)))))))) (omega (arith, whole old)) swapped_is k m h i n)
 
 pub below_all : (m : ℕ) (ws : List ℕ) → ((i : ℕ) → i < length ws → get_or ws i 0 < m) → Each m ws
 below_all m [] h = tt
@@ -118,15 +140,15 @@ module _ (start words : ℕ) (low : start < 2 ^ 32) (few : words ≤ 16384) wher
   second true = refl
   second false = refl
 
-  outside-step : (n a p : ℕ) → p < 2 ^ 32 → a % 2 ^ 32 ≡ (start + p) % 2 ^ 32 → (p < 4 * words → all_inside start words (suc a) n ≡ false)
+  outside_step : (n a p : ℕ) → p < 2 ^ 32 → a % 2 ^ 32 ≡ (start + p) % 2 ^ 32 → (p < 4 * words → all_inside start words (suc a) n ≡ false)
       → (t : Bool) → ltb p (4 * words) ≡ t → (inside start words a && all_inside start words (suc a) n) ≡ false
-  outside-step n a p k e later true f = rw (later (ltb-true p (4 * words) f)) (second (inside start words a))
-  outside-step n a p k e later false f = rw (outside a p k e (ltb-false p (4 * words) f))
+  outside_step n a p k e later true f = rw (later (ltb-true p (4 * words) f)) (second (inside start words a))
+  outside_step n a p k e later false f = rw (outside a p k e (ltb-false p (4 * words) f))
 
   pub one_outside : (n a p : ℕ) → p < 2 ^ 32 → a % 2 ^ 32 ≡ (start + p) % 2 ^ 32 → 0 < n → 4 * words < p + n → all_inside start words a n ≡ false
   unfolding all_inside
   one_outside zero a p k e some h = absurd (omega arith)
-  one_outside (suc n) a p k e some h = outside-step n a p k e (λ l. one_outside n (suc a) (suc p) (omega arith) (omega arith) (omega arith) (omega arith)) (ltb p (4 * words)) refl
+  one_outside (suc n) a p k e some h = outside_step n a p k e (λ l. one_outside n (suc a) (suc p) (omega arith) (omega arith) (omega arith) (omega arith)) (ltb p (4 * words)) refl
 
 -- ---- words
 -- stores in the first part of a list, and past its first element
@@ -148,44 +170,36 @@ set_part (w ∷ ws) (suc i) r k bs h few e =
     rw (q, sets_past (w % 256) (w / 256 % 256 ∷ w / 65536 % 256 ∷ w / 16777216 % 256 ∷ window_bytes ws) (suc (suc (suc (4 * i + k)))) bs, sets_past (w / 256 % 256) (w / 65536 % 256 ∷ w / 16777216 % 256 ∷ window_bytes ws) (suc (suc (4 * i + k))) bs, sets_past (w / 65536 % 256) (w / 16777216 % 256 ∷ window_bytes ws) (suc (4 * i + k)) bs, sets_past (w / 16777216 % 256) (window_bytes ws) (4 * i + k) bs)
     (ap (λ (l : List ℕ). w % 256 ∷ w / 256 % 256 ∷ w / 65536 % 256 ∷ w / 16777216 % 256 ∷ l) (set_part ws i r k bs (omega arith) few e))
 
--- the bytes of 2 (m + n) digits, stored one part after the other
-split_stored : (s : List ℕ) (from m n p : ℕ) (b : List ℕ) → from + 2 * (m + n) ≤ length s
-    → sets b p (bytes_in (take (2 * (m + n)) (drop from s))) ≡ sets (sets b p (bytes_in (take (2 * m) (drop from s)))) (p + m) (bytes_in (take (2 * n) (drop (from + 2 * m) s)))
-split_stored s from m n p b fits =
-    let e : 2 * (m + n) ≡ 2 * m + 2 * n = omega arith in
-    let first = take (2 * m) (drop from s) in
-    let second = take (2 * n) (drop (from + 2 * m) s) in
-    rw (e, take_split (2 * m) (2 * n) from s, in_append m first second (there (2 * m) from s (omega arith)))
-    (sym (sets_append b p (bytes_in first) (bytes_in second)) ∙ rw (many_read s from m (omega arith)))
-
 -- m bytes of those that are left, put into the word where they stand
-pub bytes_turn : (s : List ℕ) (i n from left m w q r : ℕ) (ws : List ℕ) → i + 8 + 2 * n ≤ length s → all_digits (take (8 + 2 * n) (drop i s)) ≡ true → from + 2 * left ≡ i + 8 + 2 * n → left ≤ n → m ≤ left → q % 4 + m ≤ 4
-    → q / 4 < length ws → w ≡ number_or (take 8 (drop (from + 2 * m - 8) s)) → window_bytes (r ∷ []) ≡ sets (window_bytes (get_or ws (q / 4) 0 ∷ [])) (q % 4) (low_bytes m w)
-    → sets (window_bytes ws) q (bytes_in (take (2 * left) (drop from s))) ≡ sets (window_bytes (set ws (q / 4) r)) (q + m) (bytes_in (take (2 * (left - m)) (drop (from + 2 * m) s)))
-bytes_turn s i n from left m w q r ws fits all ends few h k there is puts =
-    let place : i + (from + 2 * m - 8 - i) ≡ from + 2 * m - 8 = omega arith in
-    let eight = rw place at (all_part (from + 2 * m - 8 - i) 8 (8 + 2 * n) i s (omega arith) all) in
-    let read = last_read s from m w (omega arith) (omega arith) (omega arith) eight is in
-    let long = many_read s from m (omega arith) in
-    let here : 4 * (q / 4) + q % 4 ≡ q = omega arith in
-    let word = set_part ws (q / 4) r (q % 4) (bytes_in (take (2 * m) (drop from s))) there (rw long k) (rw read at puts) in
-    let both : m + (left - m) ≡ left = omega arith in
-    rw both at (split_stored s from m (left - m) q (window_bytes ws) (omega arith)) ∙ rw (word, here)
+pub bytes_turn : (d : List ℕ) (from m q r : ℕ) (ws : List ℕ) → all_digits d ≡ true → 8 ≤ from → from + 2 * m ≤ length d → q % 4 + m ≤ 4 → q / 4 < length ws
+    → window_bytes (r ∷ []) ≡ sets (window_bytes (get_or ws (q / 4) 0 ∷ [])) (q % 4) (bytes_high_first m (number (take 8 (drop (from + 2 * m - 8) d))))
+    → sets (window_bytes ws) q (bytes_in (drop from d)) ≡ sets (window_bytes (set ws (q / 4) r)) (q + m) (bytes_in (drop (from + 2 * m) d))
+bytes_turn d from m q r ws all far fits few here puts =
+    let first = take (2 * m) (drop from d) in
+    let back : from + 2 * m - 2 * m ≡ from = omega arith in
+    let read = rw back at (last_read d (from + 2 * m) m (omega arith) (omega arith) fits (all_part 8 (from + 2 * m - 8) d all)) in
+    let even : length first ≡ 2 * m = there (2 * m) from d fits in
+    let long : length (bytes_in first) ≡ m = in_long m first even in
+    let parts : drop from d ≡ first ++ drop (from + 2 * m) d = sym (take-append-drop (2 * m) (drop from d)) ∙ rw (drop-drop (2 * m) from d) in
+    let at : 4 * (q / 4) + q % 4 ≡ q = omega arith in
+    let word = set_part ws (q / 4) r (q % 4) (bytes_in first) here (rw long few) (rw read at puts) in
+    rw (parts, in_append m first (drop (from + 2 * m) d) even)
+    (sym (sets_append (window_bytes ws) q (bytes_in first) (bytes_in (drop (from + 2 * m) d))) ∙ rw (long, word, at))
 
 -- ---- in the window
 
 module _ (start words a p n : ℕ) (low : start < 2 ^ 32) (is : p ≡ byte_place start a) where
   -- n bytes whose addresses all belong to the window lie in it from the place of the first on
-  pub inside-window : words ≤ 16384 → 0 < n → all_inside start words a n ≡ true → p + n ≤ 4 * words
-  inside-window few some e = by (ltb (4 * words) (p + n)) refl
+  pub inside_window : words ≤ 16384 → 0 < n → all_inside start words a n ≡ true → p + n ≤ 4 * words
+  inside_window few some e = by (ltb (4 * words) (p + n)) refl
     where
       by : (t : Bool) → ltb (4 * words) (p + n) ≡ t → p + n ≤ 4 * words
       by true h = let q = place_back start a p low is in absurd (true≢false (sym e ∙ one_outside start words low few n a p q.0 q.1 some (ltb-true (4 * words) (p + n) h)))
       by false h = ltb-false (4 * words) (p + n) h
 
   -- bytes said from an address on, stored from its place on
-  pub run-stored : (w bs : List ℕ) → p + length bs ≤ 2 ^ 32 → sets w p bs ≡ stored start w (run a bs)
-  run-stored w bs fits = sym (ap (stored start w) (run_same a (start + p) bs (place_back start a p low is).1) ∙ stored_run start p w bs low fits)
+  pub run_stored : (w bs : List ℕ) → p + length bs ≤ 2 ^ 32 → sets w p bs ≡ stored start w (run a bs)
+  run_stored w bs fits = sym (ap (stored start w) (run_same a (start + p) bs (place_back start a p low is).1) ∙ stored_run start p w bs low fits)
 
 -- ---- what a record says
 
@@ -195,9 +209,9 @@ module _ (upper : ℕ) (t : List ℕ) where
   said_data e = rw e
 
   -- one of another type, or of no bytes
-  pub said-nothing : (eqb (kind_in t) 0 && ltb 0 (count_in t)) ≡ false → said_by upper t ≡ []
+  pub said_nothing : (eqb (kind_in t) 0 && ltb 0 (count_in t)) ≡ false → said_by upper t ≡ []
   unfolding said_by content_in bytes_at run
-  said-nothing e = by (eqb (kind_in t) 0) refl
+  said_nothing e = by (eqb (kind_in t) 0) refl
     where
       by : (b : Bool) → eqb (kind_in t) 0 ≡ b → cond b (run (address_in upper t) (content_in t)) [] ≡ []
       by false f = refl

@@ -1,12 +1,12 @@
 -- The C calls for windows as HEX text (document 02, Ask 7): what they return, and what they leave in the output and in the window.
-use Rattle.std.specs.Prelude.{ℕ, suc, ◌*◌, ◌^◌, ◌<◌, ◌≤◌, ◌≡◌, true, false, List, ◌∷◌, ◌++◌, ℤ, pos, negsuc, neg_ℤ, length, get_or, drop}
+use Rattle.std.specs.Prelude.{ℕ, suc, ◌*◌, ◌^◌, ◌<◌, ◌≤◌, ◌≡◌, true, false, List, ◌∷◌, ◌++◌, ℤ, pos, negsuc, neg_ℤ, length, get_or, drop, Result, Ok, Err}
 use Rattle.machine.specs.Window.{is_window_out_of_form}
 use Rattle.records.specs.Window.{window_bytes, window_words, byte_place}
 use Rattle.records.specs.Export.{export_of, export_length}
 use Rattle.records.specs.Load.{code_from, Said, said, stored, load_of}
 use Rattle.records.specs.Promises.{NoneAt}
-use Rattle.hex_export.specs.declared.Exported.{Exported}
-use Rattle.hex_export.specs.declared.Exported.TheVariants.{Written, Refused}
+use Rattle.machine.specs.Refusals.{refusal_number}
+use Rattle.machine.specs.declared.codes.Refusal.{Refusal}
 use Rattle.hex_export.specs.Results.{length_of, exported_to}
 
 -- a code with a minus, 0 for 0: -2 is `negsuc 1`
@@ -14,14 +14,14 @@ abbrev pub minus_code : ℕ → ℤ
 minus_code code = neg_ℤ (pos code)
 
 -- the number of each case of an export's answer
-unfoldable pub exported_number : Exported → ℤ
-exported_number (Written n) = pos n
-exported_number (Refused code) = minus_code code
+unfoldable pub exported_number : Result ℕ Refusal → ℤ
+exported_number (Ok n) = pos n
+exported_number (Err r) = minus_code (refusal_number r)
 
 -- it is a number of 64 bits with a sign
-abbrev pub Fits : Exported → Type 0
-Fits (Written n) = n < 2 ^ 63
-Fits (Refused code) = Unit
+abbrev pub Fits : Result ℕ Refusal → Type 0
+Fits (Ok n) = n < 2 ^ 63
+Fits (Err r) = Unit
 
 unfoldable pub length_result : ℕ → ℕ → ℤ
 length_result start count = exported_number (length_of start count)

@@ -6,7 +6,7 @@ ghost use Rattle.station.specs.Call.{CallPromised};
 ghost use Rattle.station.specs.HexCalls.{Fits, exported_number, length_result, ExportPromised, LoadPromised};
 
 use frame_log::NoRoom;
-use hex_export::Exported;
+use machine::{Refusal, codes};
 
 // The longest input, in bytes.
 const INPUT_MOST: usize = 1_048_576;
@@ -33,14 +33,14 @@ pub extern "C" fn s5933_log(input: &[u8], output: &mut [u8], set: u32) -> i64
     }
 }
 
-// The number of a C call for what an export answers: the bytes of the text, or a refusal's code with a minus.
-fn exported_number(e: Exported) -> i64
-    requires { Fits e }
-    ensures { result ≡ exported_number e }
+// The number of a C call for what an export answers: the bytes of the text, or a refusal's number with a minus.
+fn exported_number(exported: Result<usize, Refusal>) -> i64
+    requires { Fits exported }
+    ensures { result ≡ exported_number exported }
 {
-    match e {
-        Exported::Written(n) => n as i64,
-        Exported::Refused(code) => 0 - code as i64,
+    match exported {
+        Ok(n) => n as i64,
+        Err(refusal) => 0 - u32::from(refusal) as i64,
     }
 }
 
@@ -67,6 +67,5 @@ pub extern "C" fn s5933_hex_export(words: &[u32], start: u32, output: &mut [u8])
 pub extern "C" fn s5933_hex_load(words: &mut [u32], start: u32, text: &[u8]) -> i64
     ensures { LoadPromised start words.old text.now result words.new }
 {
-    let code = hex_load::load(words, start, text);
-    0 - code as i64
+    0 - codes::code(hex_load::load(words, start, text)) as i64
 }

@@ -1,12 +1,12 @@
 use mathlib.Core.Path.{sym, ◌∙◌}
 use lib.ListN.{length}
 use Rattle.records.proofs.Promises.{good_window, good_start}
-use Rattle.hex_export.proofs.Exports.{is, export-bad, export-short, export-done}
+use Rattle.hex_export.proofs.Exports.{is, export_bad, export_short, export_done}
 use native.Mathlib.Omega.{arith}
 use Rattle.hex_export.proofs.export.Goals as goal
 
 pub returns-then-is_window_out_of_form : goal.returns-then-is_window_out_of_form
-returns-then-is_window_out_of_form c = let a = c.args in export-bad a.start a.memory.now a.out.now (sym c.is_window_out_of_form.ensures ∙ c.if-is_window_out_of_form.true)
+returns-then-is_window_out_of_form c = let a = c.args in export_bad a.start a.memory.now a.out.now (sym c.is_window_out_of_form.ensures ∙ c.if-is_window_out_of_form.true)
 
 pub text_length-n-requires : goal.text_length-n-requires
 text_length-n-requires c =
@@ -16,7 +16,7 @@ text_length-n-requires c =
 pub returns-then-out-n : goal.returns-then-out-n
 returns-then-out-n c =
     let a = c.args in
-    export-short a.start a.memory.now a.out.now c.text_length-n.result (sym c.is_window_out_of_form.ensures ∙ c.if-is_window_out_of_form.false) c.text_length-n.ensures c.if-out-n.true
+    export_short a.start a.memory.now a.out.now c.text_length-n.result (sym c.is_window_out_of_form.ensures ∙ c.if-is_window_out_of_form.false) c.text_length-n.ensures c.if-out-n.true
 
 pub put_text-requires : goal.put_text-requires
 put_text-requires c =
@@ -27,4 +27,4 @@ put_text-requires c =
 pub returns : goal.returns
 returns c =
     let a = c.args in
-    export-done a.start a.memory.now a.out.now c.text_length-n.result (sym c.is_window_out_of_form.ensures ∙ c.if-is_window_out_of_form.false) c.text_length-n.ensures c.if-out-n.false c.put_text.ensures
+    export_done a.start a.memory.now a.out.now c.text_length-n.result (sym c.is_window_out_of_form.ensures ∙ c.if-is_window_out_of_form.false) c.text_length-n.ensures c.if-out-n.false c.put_text.ensures

@@ -12,7 +12,7 @@ pub put_upper-requires : goal.put_upper-requires
 put_upper-requires c =
     let a = c.args in
     let e = ap length (other_one a.upper a.next c.if-next-upper.false) ∙ length_upper a.next in
-    (omega (arith, e, c.requires.0), c.requires.1)
+    omega (arith, e, c.requires)
 
 pub returns : goal.returns
 returns c =

@@ -1,12 +1,9 @@
-use mathlib.Core.List.{append-nil}
-use native.Mathlib.Omega.{arith}
-use Rattle.records.specs.Record.{hexes}
-use Rattle.output.proofs.Wrote.{wrote_then}
+use Rattle.std.proofs.Common.{◌≡◌, ◌∙◌, arith, ◌-◌, ◌%◌}
 use Rattle.hex_export.proofs.Bytes.{last_two}
 use Rattle.hex_export.proofs.put_tail.Goals as goal
 
 pub returns : goal.returns
-unfolding hexes
 returns c =
-    let text = last_two _ _ c.digits-d.ensures in
-    (omega (arith, c.put_one.ensures.0, c.put_two-p.ensures.0), rw append-nil (wrote_then (rw text at c.put_two-p.ensures.1) c.put_one.ensures.1))
+    let n : c.wrapping_neg.result ≡ (256 - c.args.sum) % 256 = omega arith in
+    let text = last_two c.digits-digits.result c.wrapping_neg.result c.digits-digits.ensures ∙ rw n in
+    (c.put.ensures.next, rw text at c.put.ensures)

@@ -1,39 +1,24 @@
-use mathlib.Core.Path.{◌≡◌, refl, ◌∙◌}
-use native.Mathlib.Omega.{arith}
+use Rattle.std.proofs.Common.{◌≡◌, refl, arith, take}
+use Rattle.std.proofs.lemmas.List.{take_all}
 use Rattle.records.specs.Window.{window_bytes}
 use Rattle.records.specs.Record.{total, hexes}
 use Rattle.output.proofs.Wrote.{wrote_none, wrote_then}
-use Rattle.hex_export.proofs.Bytes.{total-more, hexes-more}
+use Rattle.hex_export.proofs.Bytes.{total_more, hexes_more}
 use Rattle.hex_export.proofs.put_words.Goals as goal
 
-pub loop-k-init : goal.loop-k-init
+pub loop-w-init : goal.loop-w-init
 unfolding window_bytes total hexes
-loop-k-init c = (omega arith, refl, omega arith, refl, omega arith, wrote_none)
+loop-w-init c = (omega arith, refl, wrote_none)
 
-pub returns-then-n-eq4 : goal.returns-then-n-eq4
-returns-then-n-eq4 c =
-    let v = c.put_four_words.ensures in
-    let e : c.args.n ≡ 4 = c.if-n-eq4.true in
-    (omega (arith, e, v.0), rw e v.1, v.2, rw e v.3)
-
-pub loop-k-preserved : goal.loop-k-preserved
-loop-k-preserved c =
-    let a = c.args in
-    let v = c.loop-k.invariant in (
-      omega arith,
-      c.put_word-p.auto.out ∙ v.1,
-      omega (arith, c.put_word-p.ensures.0, v.2),
-      omega (arith, c.byte_sum-sum.ensures.0, v.3, total-more a.memory.now a.i a.n c.loop-k.k (omega arith) (omega arith)),
-      omega (arith, c.byte_sum-sum.ensures.1, v.4),
-      rw (← hexes-more a.memory.now a.i a.n c.loop-k.k (omega arith) (omega arith)) (wrote_then v.5 c.put_word-p.ensures.1),
-    )
+pub loop-w-preserved : goal.loop-w-preserved
+loop-w-preserved c =
+    let ws = c.args.words.now in
+    let k = c.loop-w.w-index in
+    let v = c.loop-w.invariant in
+    (omega (arith, c.put_word-p.ensures.0, v.0), omega (arith, c.byte_sum-sum.ensures, v.1, total_more ws k (omega arith)), rw (← hexes_more ws k (omega arith)) (wrote_then v.2 c.put_word-p.ensures.1))
 
 pub returns : goal.returns
 returns c =
-    let a = c.args in
-    let v = c.loop-k.invariant in
-    let e : a.n ≡ c.loop-k.k = omega arith in
-    (rw e v.2, rw e v.3, omega (arith, v.4), rw e v.5)
-
-pub shape_of-out : goal.shape_of-out
-shape_of-out c = c.loop-k.invariant.1
+    let v = c.loop-w.invariant in
+    let all : take c.loop-w.w-index c.args.words.now ≡ c.args.words.now = take_all c.loop-w.w-index c.args.words.now c.loop-w-test.false in
+    (omega (arith, v.0, c.loop-w.auto.w-index-end, c.loop-w-test.false), rw all at v.1, rw all at v.2)

@@ -1,19 +1,20 @@
-use mathlib.Core.Path.{sym, ◌∙◌}
-use native.Mathlib.Omega.{arith}
+use Rattle.std.proofs.Common.{sym, arith, le_refl}
 use Rattle.records.specs.Load.{refused_at}
-use Rattle.records.proofs.Promises.{good_window}
 use Rattle.hex_load.proofs.refused_at.Goals as goal
 
-pub returns-then-is_window_out_of_form : goal.returns-then-is_window_out_of_form
+pub returns-in_default : goal.returns-in_default
 unfolding refused_at
-returns-then-is_window_out_of_form c = (rw (sym c.is_window_out_of_form.ensures ∙ c.if-is_window_out_of_form.true), omega arith)
+returns-in_default c = (rw c.in_default.ensures.0, omega arith)
 
-pub found_in-requires : goal.found_in-requires
-found_in-requires c =
-    let a = c.args in
-    good_window a.start a.words (sym c.is_window_out_of_form.ensures ∙ c.if-is_window_out_of_form.false)
-
-pub returns : goal.returns
+pub returns-in-Ok-check_text : goal.returns-in-Ok-check_text
 unfolding refused_at
-returns c =
-    (rw (sym c.is_window_out_of_form.ensures ∙ c.if-is_window_out_of_form.false) c.found_in.ensures.1, c.found_in.ensures.2)
+returns-in-Ok-check_text c =
+    let s = c.in-Ok.ensures in
+    (rw (s.0, ← s.1, ← s.2) (sym c.in-Ok-check_text.ensures.1), le_refl _)
+
+pub returns-in-Err : goal.returns-in-Err
+unfolding refused_at
+returns-in-Err c =
+    let s = c.in-Ok.ensures in
+    let e = c.in-Err.ensures in
+    (rw (s.0, ← s.1, ← s.2) (sym e.2), e.3)

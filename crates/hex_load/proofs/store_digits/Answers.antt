@@ -1,27 +1,22 @@
-use mathlib.Core.Path.{◌≡◌, refl, sym, ◌∙◌}
-use Prim.Native.Nat.{◌*◌, ◌/◌}
-use native.Mathlib.Omega.{arith}
-use lib.ListN.{length-set}
+use Rattle.std.proofs.Common.{sym, ◌∙◌, arith, ◌+◌, ◌-◌, ◌*◌}
+use Rattle.std.proofs.lemmas.List.{drop_all}
 use Rattle.records.specs.Load.{bytes_in}
+use Rattle.hex_load.proofs.Digits.{all_part}
 use Rattle.hex_load.proofs.Window.{bytes_turn}
 use Rattle.hex_load.proofs.store_digits.Goals as goal
 
-pub loop-left-preserved : goal.loop-left-preserved
-loop-left-preserved c =
-    let a = c.args in
-    let v = c.loop-left.invariant in
-    let k = c.at_most-m.ensures in
-    let turn = bytes_turn a.text.now a.i a.n c.loop-left.from c.loop-left.left c.at_most-m.result c.word_at-w.result c.loop-left.q c.with_bytes.result c.loop-left.memory c.requires.3 c.requires.4 v.2 v.0 k.1 (omega (arith, k.0)) (omega (arith, k.2, v.1, v.3, c.requires.0, c.loop-left-test.true)) c.word_at-w.ensures c.with_bytes.ensures in
-    (omega (arith, v.0), omega (arith, k.1, v.1), omega (arith, k.1, v.2), length-set c.loop-left.memory (c.loop-left.q / 4) c.with_bytes.result ∙ v.3, v.4 ∙ turn)
+pub digits_at-w-requires : goal.digits_at-w-requires
+digits_at-w-requires c = (omega arith, all_part 8 (c.loop-from.from + 2 * c.min-m.result - 8) c.args.digits.now c.requires.4)
+
+pub loop-from-preserved : goal.loop-from-preserved
+loop-from-preserved c =
+    let v = c.loop-from.invariant in
+    let d = c.args.digits.now in
+    let turn = bytes_turn d c.loop-from.from c.min-m.result c.loop-from.to c.with_bytes.result c.loop-from.memory c.requires.4 v.0 (omega arith) (omega arith) (omega arith) (rw c.digits_at-w.ensures at c.with_bytes.ensures) in
+    (omega arith, omega arith, omega arith, v.3 ∙ turn)
 
 pub returns : goal.returns
 unfolding bytes_in
 returns c =
-    let none : 2 * c.loop-left.left ≡ 0 = omega (arith, c.loop-left-test.false) in
-    sym (c.loop-left.invariant.4 ∙ rw none)
-
-pub loop-left-init : goal.loop-left-init
-loop-left-init c = (omega arith, refl, refl, refl, refl)
-
-pub shape_of-memory : goal.shape_of-memory
-shape_of-memory c = c.loop-left.invariant.3
+    let v = c.loop-from.invariant in
+    sym (v.3 ∙ rw (drop_all c.loop-from.from c.args.digits.now (omega arith)))

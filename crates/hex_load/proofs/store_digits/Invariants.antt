@@ -1,15 +1,13 @@
-use mathlib.Core.Path.{◌≡◌}
-use Prim.Native.Nat.{◌+◌, ◌*◌, ◌≤◌}
-use lib.ListN.{length, take, drop}
-use lib.Seq.{sets}
+use Rattle.std.proofs.Common.{◌≡◌, ◌+◌, ◌*◌, ◌-◌, ◌≤◌, length, drop}
+use Rattle.std.proofs.lemmas.List.Edits.{sets}
 use Rattle.records.specs.Window.{window_bytes}
 use Rattle.records.specs.Load.{bytes_in}
 use Rattle.hex_load.proofs.store_digits.Given as goal
 
-abbrev pub invariant-loop-left : goal.invariant-loop-left
-invariant-loop-left l =
-    (l.left ≤ l.n) × (l.q + l.left ≡ l.p + l.n) × (l.from + 2 * l.left ≡ l.i + 8 + 2 * l.n) × (length l.memory ≡ length l.initial.memory)
-    × (sets (window_bytes l.initial.memory) l.p (bytes_in (take (2 * l.n) (drop (l.i + 8) l.text))) ≡ sets (window_bytes l.memory) l.q (bytes_in (take (2 * l.left) (drop l.from l.text))))
+abbrev pub invariant-loop-from : goal.invariant-loop-from
+invariant-loop-from l =
+    (8 ≤ l.from) × (l.from ≤ length l.digits) × (2 * l.to + 8 ≡ 2 * l.p + l.from)
+    × (sets (window_bytes l.initial.memory) l.p (bytes_in (drop 8 l.digits)) ≡ sets (window_bytes l.memory) l.to (bytes_in (drop l.from l.digits)))
 
-abbrev pub decreases-loop-left : goal.decreases-loop-left
-decreases-loop-left l = l.left
+abbrev pub decreases-loop-from : goal.decreases-loop-from
+decreases-loop-from l = length l.digits - l.from

@@ -1,76 +1,65 @@
-use mathlib.Core.Path.{◌≡◌, sym, ap, ◌∙◌}
-use mathlib.Core.Bool.{true, ◌&&◌}
-use Prim.Native.Nat.{ℕ, ◌+◌, ◌*◌, ◌/◌, ◌%◌, ◌<◌, ◌≤◌}
-use native.Mathlib.Omega.{arith}
-use lib.ListN.{length, take, drop}
+use Rattle.std.proofs.Common.{◌≡◌, sym, ap, ◌∙◌, arith, ℕ, List, Bool, true, ◌&&◌, ◌+◌, ◌-◌, ◌*◌, ◌^◌, ◌<◌, ◌≤◌, take, drop, length}
+use Rattle.std.proofs.lemmas.List.{drop-take}
 use lib.Dec.{eqb, ltb}
+use lib.Seq.{drop-drop}
 use borrow.Author.Tests.{eqb-true, ltb-true}
 use Rattle.laws.proofs.Below.{both}
-use Rattle.records.specs.Window.{window_bytes}
-use Rattle.records.specs.Load.{bytes_in, byte_in, kind_in, address_in, stored}
-use Rattle.records.proofs.Exactly.{byte_low}
-use Rattle.hex_load.proofs.Digits.{many_read}
-use Rattle.hex_load.proofs.Records.{code-says, record-fits, digits_from, content-bytes}
-use Rattle.hex_load.proofs.Window.{inside-window, run-stored, said_data, said-nothing}
-use mathlib.Core.List.{List}
-use Prim.Native.Nat.{◌^◌}
-use Rattle.records.specs.Window.{byte_place}
-use Rattle.records.specs.Load.{record_code}
-use Rattle.hex_load.specs.Reads.{Head}
+use Rattle.records.specs.Window.{window_bytes, byte_place}
+use Rattle.records.specs.Load.{bytes_in, kind_in, count_in, address_in, record_code, stored}
+use Rattle.hex_load.specs.declared.Head.{Head}
+use Rattle.hex_load.specs.Reads.{Reads, kind_number}
+use Rattle.hex_load.proofs.Digits.{there, in_long}
+use Rattle.hex_load.proofs.Records.{code_says, record_fits, digits_from, content_bytes, is_data}
+use Rattle.hex_load.proofs.Window.{inside_window, run_stored, said_data, said_nothing}
 use Rattle.hex_load.proofs.store_record.Goals as goal
 
--- a data record of some bytes
-is_data : (t : List ℕ) (h : ℕ) → Head t h → (eqb (h % 256) 0 && ltb 0 (h / 16777216)) ≡ true → (kind_in t ≡ 0) × (0 < h / 16777216)
-is_data t h s e =
-    let p = both (eqb (h % 256) 0) (ltb 0 (h / 16777216)) e in
-    (sym s.kinds ∙ eqb-true (h % 256) 0 p.0, ltb-true 0 (h / 16777216) p.1)
+-- a data record of some bytes stands in the window
+in_window : (start words upper a p : ℕ) (t : List ℕ) (h : Head) (b : Bool) → record_code start words upper t ≡ 0 → Reads t h → start < 2 ^ 32 → words ≤ 16384 → a ≡ upper * 65536 + h.offset → p ≡ byte_place start a
+    → b ≡ eqb (kind_number h.kind) 0 → (b && ltb 0 h.count) ≡ true → (kind_in t ≡ 0) × (a ≡ address_in upper t) × (p + h.count ≤ 4 * words)
+in_window start words upper a p t h b z r low few at is e test =
+    let d = both b (ltb 0 h.count) test in
+    let kind : kind_in t ≡ 0 = sym r.kinds ∙ eqb-true (kind_number h.kind) 0 (sym e ∙ d.0) in
+    let address : a ≡ address_in upper t = at ∙ ap (λ (n : ℕ). upper * 65536 + n) r.offsets in
+    (kind, address, inside_window start words a p h.count low is few (ltb-true 0 h.count d.1) (rw (address, r.counts) ((code_says start words upper t z).1 kind)))
 
-address_is : (t : List ℕ) (h upper : ℕ) → Head t h → upper * 65536 + h / 256 % 65536 ≡ address_in upper t
-address_is t h upper s = ap (λ (n : ℕ). upper * 65536 + n) s.offsets
-
--- its bytes stand in the window
-in_window : (start words upper h p : ℕ) (t : List ℕ) → record_code start words upper t ≡ 0 → Head t h → start < 2 ^ 32 → words ≤ 16384 → p ≡ byte_place start (upper * 65536 + h / 256 % 65536)
-    → (kind_in t ≡ 0) × (0 < h / 16777216) → p + h / 16777216 ≤ 4 * words
-in_window start words upper h p t z s low few is d =
-    let says = code-says start words upper t z in
-    inside-window start words _ p (h / 16777216) low is few d.1 (rw (address_is t h upper s, s.counts) (says.1 d.0))
+pub slice_bounds-store_digits-end : goal.slice_bounds-store_digits-end
+slice_bounds-store_digits-end c =
+    let t = c.args.text.now in
+    let s = c.args.span in
+    omega (arith, record_fits t (code_says s.start s.words c.args.upper t c.requires.0).0, c.requires.1.counts)
 
 pub store_digits-requires : goal.store_digits-requires
 store_digits-requires c =
-    let a = c.args in
-    let t = drop a.at a.text.now in
-    let s = c.requires.1 in
-    let count = s.counts in
-    let is = (code-says a.start (length a.memory.now) a.upper t c.requires.0).0 in
-    let there : a.at + 1 + 0 ≡ a.at + 1 = omega arith in
-    let low : a.start < 2 ^ 32 = omega (arith, c.ranges.start) in
-    (in_window a.start (length a.memory.now) a.upper a.h c.place-p.result t c.requires.0 s low c.requires.3 c.place-p.ensures.0 (is_data t a.h s c.if-h-count.true), c.requires.3, omega (arith, count, byte_low t 0), omega (arith, count, record-fits a.text.now a.at is), rw there at (digits_from a.text.now a.at is 0 (8 + 2 * (a.h / 16777216)) (omega (arith, count))))
+    let t = c.args.text.now in
+    let s = c.args.span in
+    let r = c.requires.1 in
+    let is = (code_says s.start s.words c.args.upper t c.requires.0).0 in
+    let n : c.length.result - 3 - 1 ≡ 8 + 2 * c.args.head.count = omega arith in
+    let low : s.start < 2 ^ 32 = omega arith in
+    let w = in_window s.start s.words c.args.upper c.address.result c.place-p.result t c.args.head c.eq.result c.requires.0 r low s.few c.address.ensures c.place-p.ensures (c.eq.ensures ∙ is_data c.args.head.kind) c.if-eq-head.true in
+    let long = there (8 + 2 * c.args.head.count) 1 t (omega (arith, record_fits t is, r.counts)) in
+    rw (n, long) (omega (arith, w.2, c.requires.2), omega (arith, s.few, c.requires.2), omega arith, omega arith, digits_from t is 0 (8 + 2 * c.args.head.count) (omega (arith, r.counts)))
 
-pub returns-then-h-count : goal.returns-then-h-count
-returns-then-h-count c =
-    let a = c.args in
-    let t = drop a.at a.text.now in
-    let s = c.requires.1 in
-    let is = (code-says a.start (length a.memory.now) a.upper t c.requires.0).0 in
-    let held = is_data t a.h s c.if-h-count.true in
-    let there : a.at + 1 + 8 ≡ a.at + 9 = omega arith in
-    let low : a.start < 2 ^ 32 = omega (arith, c.ranges.start) in
-    let window = in_window a.start (length a.memory.now) a.upper a.h c.place-p.result t c.requires.0 s low c.requires.3 c.place-p.ensures.0 held in
-    let bs = bytes_in (take (2 * byte_in t 0) (drop (a.at + 9) a.text.now)) in
-    let long = many_read a.text.now (a.at + 9) (byte_in t 0) (omega (arith, record-fits a.text.now a.at is)) in
+pub returns-then-eq-head : goal.returns-then-eq-head
+returns-then-eq-head c =
+    let t = c.args.text.now in
+    let s = c.args.span in
+    let r = c.requires.1 in
+    let is = (code_says s.start s.words c.args.upper t c.requires.0).0 in
+    let n : c.length.result - 3 - 1 ≡ 8 + 2 * count_in t = omega (arith, r.counts) in
+    let low : s.start < 2 ^ 32 = omega arith in
+    let w = in_window s.start s.words c.args.upper c.address.result c.place-p.result t c.args.head c.eq.result c.requires.0 r low s.few c.address.ensures c.place-p.ensures (c.eq.ensures ∙ is_data c.args.head.kind) c.if-eq-head.true in
+    let bs = bytes_in (take (2 * count_in t) (drop 9 t)) in
+    let long : length bs ≡ count_in t = in_long (count_in t) (take (2 * count_in t) (drop 9 t)) (there (2 * count_in t) 9 t (omega (arith, record_fits t is))) in
     c.store_digits.ensures
-    ∙ rw (there, s.counts)
-    (run-stored a.start (length a.memory.now) (address_in a.upper t) c.place-p.result 0 low (rw (← address_is t a.h a.upper s) c.place-p.ensures.0) (window_bytes a.memory.now) bs (rw long (omega (arith, window, s.counts, c.requires.3)))
-    ∙ rw (← content-bytes a.text.now a.at is, ← said_data a.upper t held.0))
+    ∙ rw (n, drop-take 8 (2 * count_in t) (drop 1 t), drop-drop 8 1 t)
+    (run_stored s.start s.words (address_in c.args.upper t) c.place-p.result 0 low (rw w.1 at c.place-p.ensures) (window_bytes c.args.memory.now) bs (rw long (omega (arith, w.2, r.counts, s.few)))
+    ∙ rw (← content_bytes t is, ← said_data c.args.upper t w.0))
 
-pub returns-else-h-count : goal.returns-else-h-count
+pub returns-else-eq-head : goal.returns-else-eq-head
 unfolding stored
-returns-else-h-count c =
-    let a = c.args in
-    let h = c.requires.1 in
-    sym (ap (stored a.start (window_bytes a.memory.now)) (said-nothing a.upper (drop a.at a.text.now) (sym (λ i. eqb (h.kinds i) 0 && ltb 0 (h.counts i)) ∙ c.if-h-count.false)))
-
-pub overflow_add-at : goal.overflow_add-at
-overflow_add-at c =
-    let a = c.args in
-    omega (arith, record-fits a.text.now a.at (code-says a.start (length a.memory.now) a.upper (drop a.at a.text.now) c.requires.0).0)
+returns-else-eq-head c =
+    let s = c.args.span in
+    let r = c.requires.1 in
+    let e : (c.eq.result && ltb 0 c.args.head.count) ≡ (eqb (kind_in c.args.text.now) 0 && ltb 0 (count_in c.args.text.now)) = (λ i. (c.eq.ensures ∙ is_data c.args.head.kind) i && ltb 0 c.args.head.count) ∙ (λ i. eqb (r.kinds i) 0 && ltb 0 (r.counts i)) in
+    sym (ap (stored s.start (window_bytes c.args.memory.now)) (said_nothing c.args.upper c.args.text.now (sym e ∙ c.if-eq-head.false)))

@@ -1,33 +1,29 @@
-use mathlib.Core.Path.{◌≡◌, sym, ◌∙◌}
-use Prim.Native.Nat.{◌+◌, ◌≤◌}
-use native.Mathlib.Omega.{arith}
-use lib.ListN.{length, drop}
+use Rattle.std.proofs.Common.{◌≡◌, sym, ap, ◌∙◌, arith, ◌⊎◌, inl, inr}
 use borrow.Author.Tests.{eq-eqb, ne_eqb}
-use Rattle.records.specs.Load.{upper_after}
-use Rattle.hex_load.proofs.Records.{record-fits, upper-count, upper-read}
-use mathlib.Core.Bool.{true}
-use mathlib.Core.List.{List}
-use Prim.Native.Nat.{ℕ, ◌%◌}
-use Rattle.records.specs.Load.{is_record}
-use Rattle.hex_load.specs.Reads.{Head}
+use Rattle.records.specs.Load.{upper_after, kind_in}
+use Rattle.hex_load.specs.declared.Kind.{Kind}
+use Rattle.hex_load.specs.declared.Kind.TheVariants.{Data, End}
+use Rattle.hex_load.specs.Reads.{kind_number}
+use Rattle.hex_load.proofs.Records.{record_fits, upper_count, upper_read, digits_from}
 use Rattle.hex_load.proofs.upper_after.Goals as goal
 
-fits : (text : List ℕ) (at h : ℕ) → is_record (drop at text) ≡ true → Head (drop at text) h → h % 256 ≡ 4 → at + 16 ≤ length text
-fits text at h e s k = omega (arith, upper-count text at e (sym s.kinds ∙ k), record-fits text at e)
+pub digits_at-requires : goal.digits_at-requires
+digits_at-requires c =
+    let t = c.args.text.now in
+    let k : kind_in t ≡ 4 = sym c.requires.1.kinds ∙ ap kind_number c.in-Upper.is in
+    (omega (arith, record_fits t c.requires.0, upper_count t c.requires.0 k), digits_from t c.requires.0 4 8 (omega (arith, upper_count t c.requires.0 k)))
 
-pub returns-then-h-eq4 : goal.returns-then-h-eq4
+pub returns-in-Upper : goal.returns-in-Upper
 unfolding upper_after
-returns-then-h-eq4 c =
-    let kind = sym c.requires.1.kinds ∙ c.if-h-eq4.true in
-    (upper-read c.args.text.now c.args.at c.requires.0 c.word_at.result kind c.word_at.ensures ∙ rw (eq-eqb _ 4 kind), omega arith)
+returns-in-Upper c =
+    let t = c.args.text.now in
+    let k : kind_in t ≡ 4 = sym c.requires.1.kinds ∙ ap kind_number c.in-Upper.is in
+    rw (eq-eqb (kind_in t) 4 k, c.digits_at.ensures) (upper_read t c.requires.0 k)
 
-pub returns : goal.returns
+other : (k : Kind) → (k ≡ Data) ⊎ (k ≡ End) → kind_number k ≡ 4 → ⊥
+other k (inl e) q = let f : kind_number Data ≡ 4 = sym (ap kind_number e) ∙ q in absurd (omega arith)
+other k (inr e) q = let f : kind_number End ≡ 4 = sym (ap kind_number e) ∙ q in absurd (omega arith)
+
+pub returns-in-Data : goal.returns-in-Data
 unfolding upper_after
-returns c =
-    (simp (ne_eqb _ 4 (λ e. c.if-h-eq4.false (c.requires.1.kinds ∙ e))), c.requires.2)
-
-pub overflow_add-at : goal.overflow_add-at
-overflow_add-at c = omega (arith, fits c.args.text.now c.args.at c.args.h c.requires.0 c.requires.1 c.if-h-eq4.true)
-
-pub word_at-requires : goal.word_at-requires
-word_at-requires c = omega (arith, fits c.args.text.now c.args.at c.args.h c.requires.0 c.requires.1 c.if-h-eq4.true)
+returns-in-Data c = rw (ne_eqb (kind_in c.args.text.now) 4 (λ e. other c.args.head.kind c.in-Data.is (c.requires.1.kinds ∙ e)))

@@ -1,8 +1,8 @@
-use native.Mathlib.Omega.{arith}
+use Rattle.std.proofs.Common.{arith}
 use Rattle.records.specs.Window.{window_bytes}
 use Rattle.records.specs.Record.{total}
-use Rattle.hex_export.proofs.byte_sum.Goals as goal
+use Rattle.records.proofs.byte_sum.Goals as goal
 
 pub returns : goal.returns
 unfolding window_bytes total
-returns c = (omega arith, omega arith)
+returns c = rw c.to_be_bytes.ensures (omega arith)

@@ -7,7 +7,7 @@ use borrow.Author.Tests.{ne_eqb, leb-true, leb-false}
 use Rattle.records.specs.Load.{all_inside}
 use Rattle.records.proofs.Promises.{all-inside}
 use Rattle.hex_load.proofs.Window.{place_back, one_outside}
-use Rattle.hex_load.proofs.all_inside.Goals as goal
+use Rattle.hex_load.proofs.span.Span.has_all.Goals as goal
 
 -- by the place of the first address
 module _ (start words a p : ℕ) (low : start < 2 ^ 32) (few : words ≤ 16384) (fits : p < 2 ^ 32) (is : a % 2 ^ 32 ≡ (start + p) % 2 ^ 32) where
@@ -22,5 +22,6 @@ module _ (start words a p : ℕ) (low : start < 2 ^ 32) (few : words ≤ 16384) 
 
 pub returns : goal.returns
 returns c =
-    let b = place_back c.args.start c.args.a c.place.result (omega arith) c.place.ensures.0 in
-    inside c.args.start c.args.words c.args.a c.place.result (omega arith) c.requires.2 b.0 b.1 c.args.n
+    let s = c.args.self in
+    let b = place_back s.start c.args.address c.place.result (omega arith) c.place.ensures in
+    inside s.start s.words c.args.address c.place.result (omega arith) s.few b.0 b.1 c.args.count

@@ -1,0 +1,56 @@
+use Rattle.std.proofs.Common.{◌≡◌, sym, ◌∙◌, arith, ℕ, List, Bool, ◌&&◌, not, ◌-◌, ◌+◌, ◌*◌}
+use lib.Dec.{eqb}
+use Rattle.records.specs.Load.{digits_in, kind_in, count_in, address_in, all_inside}
+use Rattle.hex_load.specs.declared.Head.{Head}
+use Rattle.hex_load.specs.Reads.{Reads, kind_number}
+use Rattle.hex_load.proofs.Records.{not_record, bad_sum, last_code, sum_no, sum_says, is_data}
+use Rattle.hex_load.proofs.record_of.Goals as goal
+
+pub returns-in_default : goal.returns-in_default
+returns-in_default c =
+    let e = not_record c.args.span.start c.args.span.words c.args.upper c.args.text.now c.in_default.ensures in
+    (e, λ z. absurd (omega (arith, e, z)))
+
+pub returns-in_default-digits_sum : goal.returns-in_default-digits_sum
+returns-in_default-digits_sum c =
+    let t = c.args.text.now in
+    let b = c.in-Some.ensures in
+    let n : c.length.result - 1 - 1 ≡ digits_in t = omega (arith, b.reads.counts) in
+    let e = not_record c.args.span.start c.args.span.words c.args.upper t (sum_no t c.in-Some.head b (rw n at c.in_default-digits_sum.ensures)) in
+    (e, λ z. absurd (omega (arith, e, z)))
+
+pub returns-then-sum-rest-ne0 : goal.returns-then-sum-rest-ne0
+returns-then-sum-rest-ne0 c =
+    let t = c.args.text.now in
+    let b = c.in-Some.ensures in
+    let n : c.length.result - 1 - 1 ≡ digits_in t = omega (arith, b.reads.counts) in
+    let s = sum_says t c.in-Some.head b c.in-Some-digits_sum.rest (rw n at c.in-Some-digits_sum.ensures) in
+    let e = bad_sum c.args.span.start c.args.span.words c.args.upper t s.0 (λ z. c.if-sum-rest-ne0.true (rw c.sum.ensures (s.1 ∙ z))) in
+    (e, λ z. absurd (omega (arith, e, z)))
+
+-- the last test, by what the record has
+tested : (start words upper address : ℕ) (t : List ℕ) (h : Head) (b i : Bool) → Reads t h → address ≡ upper * 65536 + h.offset → b ≡ eqb (kind_number h.kind) 0 → i ≡ all_inside start words address h.count
+    → (b && not i) ≡ (eqb (kind_in t) 0 && not (all_inside start words (address_in upper t) (count_in t)))
+tested start words upper address t h b i r a e f =
+    (λ j. e j && not (f j)) ∙ (λ j. eqb (r.kinds j) 0 && not (all_inside start words ((a ∙ (λ k. upper * 65536 + r.offsets k)) j) (r.counts j)))
+
+pub returns-then-eq-has_all : goal.returns-then-eq-has_all
+returns-then-eq-has_all c =
+    let t = c.args.text.now in
+    let span = c.args.span in
+    let h = c.in-Some.head in
+    let b = c.in-Some.ensures in
+    let n : c.length.result - 1 - 1 ≡ digits_in t = omega (arith, b.reads.counts) in
+    let s = sum_says t h b c.in-Some-digits_sum.rest (rw n at c.in-Some-digits_sum.ensures) in
+    let e = last_code span.start span.words c.args.upper t s.0 (sym s.1 ∙ (rw c.sum.ensures at c.if-sum-rest-ne0.false)) ∙ rw (sym (tested span.start span.words c.args.upper c.address.result t h c.eq.result c.has_all.result b.reads c.address.ensures (c.eq.ensures ∙ is_data h.kind) c.has_all.ensures) ∙ c.if-eq-has_all.true) in
+    (e, λ z. absurd (omega (arith, e, z)))
+
+pub returns : goal.returns
+returns c =
+    let t = c.args.text.now in
+    let span = c.args.span in
+    let h = c.in-Some.head in
+    let b = c.in-Some.ensures in
+    let n : c.length.result - 1 - 1 ≡ digits_in t = omega (arith, b.reads.counts) in
+    let s = sum_says t h b c.in-Some-digits_sum.rest (rw n at c.in-Some-digits_sum.ensures) in
+    (last_code span.start span.words c.args.upper t s.0 (sym s.1 ∙ (rw c.sum.ensures at c.if-sum-rest-ne0.false)) ∙ rw (sym (tested span.start span.words c.args.upper c.address.result t h c.eq.result c.has_all.result b.reads c.address.ensures (c.eq.ensures ∙ is_data h.kind) c.has_all.ensures) ∙ c.if-eq-has_all.false), b.reads)
