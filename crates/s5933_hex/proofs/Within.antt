@@ -13,7 +13,7 @@ use Rattle.controller.specs.declared.Controller.{Controller}
 use Rattle.frame_log.specs.declared.Stream.{Stream}
 use Rattle.frame_log.specs.declared.Streamed.{Streamed}
 use Rattle.frame_log.specs.declared.Ran.{Ran}
-use Rattle.frame_log.specs.Results.{TextRun, Piece, is_short, is_within, text_run, piece_of, RunPromised, FeedPromised}
+use Rattle.frame_log.specs.Results.{TextRun, Piece, no_room, is_short, is_within, text_run, piece_of, RunPromised, FeedPromised}
 use Rattle.frame_log.proofs.Within.{within}
 use Rattle.records.specs.Export.{export_of}
 use Rattle.hex_export.specs.declared.Exported.{Exported}
