@@ -1,2 +1,3 @@
 pub mod Tables
 pub mod Cycles
+pub mod Faults

@@ -1,8 +1,8 @@
 // What refuses a step, in parts: by the form, of a read or a write, of a cycle. Nothing is changed here.
 #![tactic(auto)]
 
-ghost use Rattle.std.specs.Prelude.{◌≡◌, ◌&&◌, ◌||◌, List, ℕ};
-ghost use Rattle.machine.specs.Words.{any_of};
+ghost use Rattle.std.specs.Prelude.{◌≡◌, not, ◌&&◌, ◌||◌, List, ℕ, ◌%◌, eqb, ltb};
+ghost use Rattle.machine.specs.Sides as sides;
 ghost use Rattle.machine.specs.Sides.{party_of};
 ghost use Rattle.machine.specs.State.{lane, held};
 ghost use Rattle.machine.specs.Access.{access_of, kind_of, is_on, is_write_on, reads, writes};
@@ -10,7 +10,7 @@ ghost use Rattle.machine.specs.Offsets.{in_table, is_read_only, fifo_port};
 ghost use Rattle.machine.specs.Fifos.{is_empty, is_full};
 ghost use Rattle.machine.specs.Rights.{ended};
 ghost use Rattle.machine.specs.Cycles.{is_ready};
-ghost use Rattle.machine.specs.Code.{lane_faults, is_out_of_form, is_unknown_offset, is_read_only_write, is_full_or_empty};
+ghost use Rattle.machine.specs.Code.{is_out_of_form, is_unknown_offset, is_read_only_write, is_full_or_empty};
 ghost use Rattle.machine.specs.Refusals.{code_number};
 ghost use Rattle.bank.specs.Bank.{state_in};
 ghost use Rattle.refusal.specs.Codes.{access_code, cycle_code, form_code};
@@ -20,35 +20,38 @@ use machine::{ALL_ENABLES, Addon, Pci, Refusal, Side, Step, WORD_BYTES, offsets}
 
 // ---- of the form
 
-// Whether the right of a side's lane stands together with an end of it. Mostly none stands, and no end is looked at.
-#[tactic(auto, using(rights::proofs::Ends::as_righted))]
-fn is_right_wrong<S: Places>(b: Bank) -> bool
-    ensures { (mail pci addon : List ℕ) → result ≡ ((lane S.side (state_in b mail pci addon)).right && ended S.side (lane S.side (state_in b mail pci addon)) b.mcsr b.intcsr) }
+// Code 1, of both lanes but for their rights: a fill, an address, a count. Each pair stands together: the compiler makes one test of it.
+fn are_lanes_out_of_form(b: Bank) -> bool
+    ensures { result ≡ (ltb 8 b.from_pci.fill.0 || ltb 8 b.from_addon.fill.0 || ((not (eqb (b.from_pci.address % 4) 0) || not (eqb (b.from_addon.address % 4) 0)) || (ltb 0x03FF_FFFF b.from_pci.count.0 || ltb 0x03FF_FFFF b.from_addon.count.0))) }
 {
-    S::lane(b).right && rights::is_ended::<S>(b)
+    let fills = fifo::is_out_of_form(b.from_pci.fill) | fifo::is_out_of_form(b.from_addon.fill);
+    let addresses = (b.from_pci.address % WORD_BYTES != 0)
+        | (b.from_addon.address % WORD_BYTES != 0);
+    let counts = count::is_out_of_form(b.from_pci.count)
+        | count::is_out_of_form(b.from_addon.count);
+    fills | (addresses | counts)
 }
 
-// Code 1, of a side's lane: a fill, an address, a count, a right.
-#[tactic(auto, using(rights::proofs::Ends::as_filled, rights::proofs::Ends::as_counted, rights::proofs::Ends::as_addressed))]
-fn is_lane_out_of_form<S: Places>(b: Bank) -> bool
-    ensures { (mail pci addon : List ℕ) → result ≡ any_of (lane_faults S.side (lane S.side (state_in b mail pci addon)) b.mcsr b.intcsr) }
+// Whether a right stands together with an end of it. Mostly none stands, and no end is looked at.
+fn is_right_wrong(b: Bank) -> bool
+    ensures { (mail pci addon : List ℕ) → result ≡ (b.from_pci.right && ended sides.pci (lane sides.pci (state_in b mail pci addon)) b.mcsr b.intcsr || b.from_addon.right && ended sides.addon (lane sides.addon (state_in b mail pci addon)) b.mcsr b.intcsr) }
 {
-    let lane = S::lane(b);
-    fifo::is_out_of_form(lane.fill)
-        | (lane.address % WORD_BYTES != 0)
-        | count::is_out_of_form(lane.count)
-        | is_right_wrong::<S>(b)
+    if !(b.from_pci.right | b.from_addon.right) {
+        return false;
+    }
+    b.from_pci.right & rights::is_ended::<Pci>(b)
+        | b.from_addon.right & rights::is_ended::<Addon>(b)
 }
 
-// Code 1, of all: the lanes, and a bit in INTCSR, MCSR or AINT that it does not hold.
+// Code 1, of all: the lanes, a bit in INTCSR, MCSR or AINT that it does not hold, a right.
 fn is_out_of_form(b: Bank) -> bool
     ensures { (mail pci addon : List ℕ) → result ≡ is_out_of_form (state_in b mail pci addon) }
 {
-    is_lane_out_of_form::<Pci>(b)
-        | is_lane_out_of_form::<Addon>(b)
+    are_lanes_out_of_form(b)
         | !word::is_only(Pci::KEPT | Pci::FLAGS, b.intcsr)
         | !word::is_only(mcsr::KEPT, b.mcsr)
         | !word::is_only(Addon::KEPT | Addon::FLAGS, b.aint)
+        | is_right_wrong(b)
 }
 
 // Codes 1 and 2: no step changes which.

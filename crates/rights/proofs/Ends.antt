@@ -18,7 +18,7 @@ pub none_lem : (n : ℕ) → not (leb 1 n) ≡ eqb n 0
 none_lem zero = refl
 none_lem (suc n) = rw (le-leb 1 (suc n) (omega arith), eqb-suc-zero n)
 
--- of the state that a bank stands for, a lane's words are as many as its fill says, and all else is the bank's
+-- of the state that a bank stands for, a lane's words are as many as its fill says, and its count and its right are the bank's
 pub as_filled : (side : Side) (b : Bank) (mail pcis addons : List ℕ) → length (lane side (state_in b mail pcis addons)).words ≡ (lane_in side b).fill.0
 unfolding state_in
 as_filled pci b mail pcis addons = length_from 8 0 pcis b.from_pci.head b.from_pci.fill.0
@@ -28,11 +28,6 @@ pub as_counted : (side : Side) (b : Bank) (mail pcis addons : List ℕ) → (lan
 unfolding state_in
 as_counted pci b mail pcis addons = refl
 as_counted addon b mail pcis addons = refl
-
-pub as_addressed : (side : Side) (b : Bank) (mail pcis addons : List ℕ) → (lane side (state_in b mail pcis addons)).address ≡ (lane_in side b).address
-unfolding state_in
-as_addressed pci b mail pcis addons = refl
-as_addressed addon b mail pcis addons = refl
 
 pub as_righted : (side : Side) (b : Bank) (mail pcis addons : List ℕ) → (lane side (state_in b mail pcis addons)).right ≡ (lane_in side b).right
 unfolding state_in
