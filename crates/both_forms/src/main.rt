@@ -3,7 +3,6 @@
 #![tactic(auto)]
 
 use controller::Controller;
-use frame::Framed;
 use logline::ENGLISH;
 use step::Stepped;
 
@@ -27,10 +26,10 @@ fn by_value(c: Controller, memory: &mut [u32], line: &[u8]) -> Stepped {
 }
 
 fn in_place(c: Controller, memory: &mut [u32], line: &[u8]) -> Stepped {
-    if let Framed::Frame(s) = frame::frame(line) {
-        return place::step_by_place(c, memory, 0, s);
+    match frame::frame(line) {
+        Some(s) => place::step_by_place(c, memory, 0, s),
+        None => frame_log::answer_line(c, memory, 0, line),
     }
-    frame_log::answer_line(c, memory, 0, line)
 }
 
 // The log by the forms that are passed.

@@ -2,15 +2,13 @@
 // 2^32, and the line of what they come to.
 #![tactic(auto)]
 
-use tally::{Tally, Total};
+use frame_log::Cycles;
+use tally::Tally;
 
-fn write_total<R: Print>(rt: &R, total: Total) {
+fn write_total<R: Print>(rt: &R, total: Option<Cycles>) {
     let _ = match total {
-        Total::Cycles(writes, reads) => {
-            let line = tally::line(writes, reads);
-            rt.write_all(&line)
-        }
-        Total::UnknownSet => rt.write_all(b"unknown label set\n"),
+        Some(cycles) => rt.write_all(&tally::line(cycles)),
+        None => rt.write_all(b"unknown label set\n"),
     };
 }
 
@@ -19,14 +17,13 @@ fn main(rt: HostRuntime) {
     let mut bytes = [0u8; 4096];
     let mut reader = rt.reader();
     let n = streams::read_full(&mut reader, &mut bytes);
-    let s = tally::start();
-    let reading = s.reading;
-    let stream = s.stream;
-    let t = Tally {
-        reading,
-        stream,
+    let cycles = Cycles {
         writes: 0xFFFF_FFFE,
         reads: 0xFFFF_FFFF,
+    };
+    let t = Tally {
+        cycles,
+        ..tally::start()
     };
     let fed = tally::feed(t, &mut memory, 0, &bytes[..n]);
     let total = tally::finish(fed, &mut memory, 0);

@@ -1,14 +1,10 @@
 -- What a line of text says: a step, or nothing.
-use Rattle.std.specs.Prelude.{ℕ, List, Bool, cond, ◌&&◌, length, take, drop, get_or, eqb}
+use Rattle.std.specs.Prelude.{ℕ, List, Bool, Option, Some, None, cond, ◌&&◌, length, take, drop, get_or, eqb}
 use Rattle.machine.specs.State.{State}
 use Rattle.machine.specs.Step.{Outcome, step_of, not_aframe}
 use Rattle.machine.specs.declared.Step.{Step}
 use Rattle.lines.specs.Lines.{lf}
 use Rattle.hex_digits.specs.Hex.{all_digits, number}
-use Rattle.frame.specs.declared.Framed.{Framed}
-use Rattle.frame.specs.declared.Framed.TheVariants.{Frame, NotAFrame}
-use Rattle.frame.specs.declared.Value.{Value}
-use Rattle.frame.specs.declared.Value.TheVariants.{Number, NotDigits}
 
 -- `count` bytes of a line, from a place on
 abbrev pub part : ℕ → ℕ → List ℕ → List ℕ
@@ -23,19 +19,14 @@ unfoldable pub step_in : List ℕ → Step
 step_in line = record { kind = number (part 0 2 line); offset = number (part 2 2 line); enables = number (part 4 1 line); value = number (part 5 8 line) }
 
 -- the reader's answer
-unfoldable pub frame_of : List ℕ → Framed
-frame_of line = cond (is_frame line) (Frame (step_in line)) NotAFrame
+unfoldable pub frame_of : List ℕ → Option Step
+frame_of line = cond (is_frame line) (Some (step_in line)) None
 
 -- the frame that bytes begin with, an LF behind it
-unfoldable pub frame_in : List ℕ → Framed
-frame_in bytes = cond (eqb (get_or bytes 13 0) lf) (frame_of (take 13 bytes)) NotAFrame
+unfoldable pub frame_in : List ℕ → Option Step
+frame_in bytes = cond (eqb (get_or bytes 13 0) lf) (frame_of (take 13 bytes)) None
 
 -- What each case of that answer stands for: a frame is a step; no frame (an empty line is none) leaves everything and answers 14.
-unfoldable pub framed_outcome : Framed → State → ℕ → List ℕ → Outcome
-framed_outcome (Frame s) st start memory = step_of st start memory s
-framed_outcome NotAFrame st start memory = record { state = st; memory = memory; answer = not_aframe st }
-
--- ---- inside: a line of digits as one number
-
-unfoldable pub value_of : List ℕ → Value
-value_of s = cond (all_digits s) (Number (number s)) NotDigits
+unfoldable pub framed_outcome : Option Step → State → ℕ → List ℕ → Outcome
+framed_outcome (Some s) st start memory = step_of st start memory s
+framed_outcome None st start memory = record { state = st; memory = memory; answer = not_aframe st }

@@ -3,7 +3,7 @@
 --     counts_more                 the count after another line
 --     frames_told                 what the lines of a text say that begins with a piece
 --     counts_joined               pieces joined
-use Rattle.std.proofs.Common.{◌≡◌, ℕ, ◌+◌, ◌%◌, ◌^◌, ◌<◌, ◌≤◌, Bool, true, false, cond, List, [], ◌∷◌, ◌++◌, map, length, take, drop, sym, refl, ap, ◌∙◌, append_assoc, append-nil, arith, drop_of_length-le, length-take, take-take}
+use Rattle.std.proofs.Common.{◌≡◌, ℕ, Option, Some, None, ◌+◌, ◌%◌, ◌^◌, ◌<◌, Bool, cond, List, [], ◌∷◌, ◌++◌, map, length, take, drop, sym, refl, ap, ◌∙◌, append_assoc, append-nil, arith, drop_of_length-le, length-take, take-take}
 use native.Mathlib.Decide.{dec_le, dec_lt, ℕ_discrete}
 use Rattle.machine.specs.State.{State}
 use Rattle.machine.specs.Step.{Outcome, step_of}
@@ -13,13 +13,11 @@ use Rattle.machine.specs.declared.Step.{Step}
 use Rattle.machine.specs.declared.Answer.{Answer}
 use Rattle.lines.specs.Lines.{lines_from}
 use Rattle.lines.proofs.Lines.{lines_lf, lines_other, lines_end, lines_stop}
-use Rattle.frame.specs.declared.Framed.{Framed}
-use Rattle.frame.specs.declared.Framed.TheVariants.{Frame, NotAFrame}
 use Rattle.frame.specs.Frame.{frame_of, framed_outcome}
-use Rattle.frame_log.specs.declared.Turn.{Turn}
-use Rattle.frame_log.specs.Log.{frames_in, line_outcome, piece_outcome}
+use Rattle.frame_log.specs.declared.progress.Progress.{Progress}
+use Rattle.frame_log.specs.Log.{frames_in, line_outcome, PieceOutcome, piece_outcome}
 use Rattle.frame_log.specs.Promises.{joined, framed, steps_in}
-use Rattle.frame_log.specs.Results.{TurnPromised}
+use Rattle.frame_log.specs.Results.{begun_at, LinePromised}
 use Rattle.frame_log.specs.Counts.{steps_of, events_of, is_done_cycle, cycles_of, piece_run, count_after, count_of, end_count_of, pieces_count, CountsJoined}
 use Rattle.frame_log.proofs.Carried.{fed-lf, fed-other}
 use Rattle.frame_log.proofs.Pieces.{frame_clip, same_more}
@@ -32,50 +30,49 @@ after_run done r = record { state = r.state; memory = r.memory; events = done ++
 after_after : (xs ys : List Event) (r : RunOutcome) → after_run xs (after_run ys r) ≡ after_run (xs ++ ys) r
 after_after xs ys r = rw (append_assoc xs ys r.events)
 
-run_framed : (f : Framed) (st : State) (start : ℕ) (memory : List ℕ) (steps : List Step)
+run_framed : (f : Option Step) (st : State) (start : ℕ) (memory : List ℕ) (steps : List Step)
     → (let o = framed_outcome f st start memory in run st start memory (framed f ++ steps) ≡ after_run (events_of f o.answer) (run o.state start o.memory steps))
 unfolding framed_outcome
-run_framed (Frame s) st start memory steps = refl
-run_framed NotAFrame st start memory steps = refl
+run_framed (Some s) st start memory steps = refl
+run_framed None st start memory steps = refl
 
-module _ {begun piece : List ℕ} {at : ℕ} {t : Turn} {bytes : List ℕ} (T : TurnPromised begun piece at t bytes) (st : State) (start : ℕ) (memory : List ℕ) (done : List Event) where
-  pub run-ended : t.ended ≡ true → (o : Outcome) → o ≡ framed_outcome t.framed st start memory
-      → after_run done (piece_run st start memory begun (drop at piece)) ≡ after_run (done ++ events_of t.framed o.answer) (piece_run o.state start o.memory (take t.len bytes) (drop t.next piece))
-  run-ended e o q =
-      rw (T.says, e, q)
-      (ap (after_run done) (run_framed t.framed st start memory (steps_of (frames_in (take t.len bytes) (drop t.next piece))))
-      ∙ after_after done _ _)
+module _ (p q : Progress) (piece : List ℕ) (st : State) (start : ℕ) (memory : List ℕ) where
+  -- the run of the lines from a place on, and what is carried past them
+  abbrev runs : Progress → State → List ℕ → RunOutcome
+  runs r st' memory' = piece_run st' start memory' (begun_at r) (drop r.at piece)
 
-  pub run_on : t.ended ≡ false → after_run done (piece_run st start memory begun (drop at piece)) ≡ after_run done (piece_run st start memory (take t.len bytes) (drop t.next piece))
-  run_on e = rw (T.says, e)
+  abbrev left : Progress → State → List ℕ → List ℕ
+  left r st' memory' = (piece_outcome st' start memory' (begun_at r) (drop r.at piece)).begun
 
-  pub begun-ended : t.ended ≡ true → (o : Outcome) → o ≡ framed_outcome t.framed st start memory
-      → (piece_outcome st start memory begun (drop at piece)).begun ≡ (piece_outcome o.state start o.memory (take t.len bytes) (drop t.next piece)).begun
-  begun-ended e o q = rw (T.fed st start memory, e, ← q)
+  module _ (said : Option Step) (T : LinePromised p piece (Some said) q) (o : Outcome) (e : o ≡ framed_outcome said st start memory) where
+    pub run_line : (done : List Event) → after_run done (runs p st memory) ≡ after_run (done ++ events_of said o.answer) (runs q o.state o.memory)
+    run_line done =
+        rw (T.tells.says, e)
+        (ap (after_run done) (run_framed said st start memory (steps_of (frames_in (begun_at q) (drop q.at piece)))) ∙ after_after done _ _)
 
-  pub begun-on : t.ended ≡ false → (piece_outcome st start memory begun (drop at piece)).begun ≡ (piece_outcome st start memory (take t.len bytes) (drop t.next piece)).begun
-  begun-on e = rw (T.fed st start memory, e)
+    pub begun_line : left p st memory ≡ left q o.state o.memory
+    begun_line = ap (λ (f : PieceOutcome). f.begun) (T.tells.fed st start memory) ∙ rw (← e)
 
-module _ (st : State) (start : ℕ) (memory begun piece : List ℕ) (i : ℕ) (h : length piece ≤ i) where
-  pub run_none : (done : List Event) → after_run done (piece_run st start memory begun (drop i piece)) ≡ record { state = st; memory = memory; events = done }
-  unfolding frames_in
-  run_none done = rw (drop_of_length-le piece h, append-nil)
+  module _ (T : LinePromised p piece None q) where
+    pub run_none : (done : List Event) → after_run done (runs p st memory) ≡ record { state = st; memory = memory; events = done }
+    unfolding frames_in
+    run_none done = rw (T.tells.says, drop_of_length-le piece T.place, append-nil)
 
-  pub begun_none : (piece_outcome st start memory begun (drop i piece)).begun ≡ begun
-  unfolding piece_outcome
-  begun_none = rw (drop_of_length-le piece h)
+    pub begun_none : left p st memory ≡ begun_at q
+    unfolding piece_outcome
+    begun_none = ap (λ (f : PieceOutcome). f.begun) (T.tells.fed st start memory) ∙ rw (drop_of_length-le piece T.place)
 
 cycles_append : (kind : ℕ) (xs ys : List Event) → cycles_of kind (xs ++ ys) ≡ cycles_of kind xs + cycles_of kind ys
 unfolding cycles_of
 cycles_append kind [] ys = omega arith
 cycles_append kind (e ∷ xs) ys = omega (arith, cycles_append kind xs ys)
 
-cycles_one : (kind : ℕ) (f : Framed) (a : Answer) → cycles_of kind (events_of f a) ≡ cond (is_done_cycle kind f a) 1 0
+cycles_one : (kind : ℕ) (f : Option Step) (a : Answer) → cycles_of kind (events_of f a) ≡ cond (is_done_cycle kind f a) 1 0
 unfolding cycles_of
-cycles_one kind (Frame s) a = omega arith
-cycles_one kind NotAFrame a = refl
+cycles_one kind (Some s) a = omega arith
+cycles_one kind None a = refl
 
-pub counts_more : (kind first : ℕ) (done : List Event) (f : Framed) (a : Answer) (n m : ℕ) (b : Bool)
+pub counts_more : (kind first : ℕ) (done : List Event) (f : Option Step) (a : Answer) (n m : ℕ) (b : Bool)
     → n ≡ (first + cycles_of kind done) % 2 ^ 32 → b ≡ is_done_cycle kind f a → m ≡ (n + cond b 1 0) % 2 ^ 32 → m ≡ (first + cycles_of kind (done ++ events_of f a)) % 2 ^ 32
 counts_more kind first done f a n m b p q e =
     let all : cycles_of kind (done ++ events_of f a) ≡ cycles_of kind done + cond b 1 0 =
@@ -85,7 +82,7 @@ counts_more kind first done f a n m b p q e =
 -- ---- pieces joined
 
 -- what lines say, of a line that has begun by its first 14 bytes
-abbrev said : List (List ℕ) → List Framed
+abbrev said : List (List ℕ) → List (Option Step)
 said ls = map frame_of ls
 
 frame_same : (l k : List ℕ) → take 14 l ≡ take 14 k → frame_of l ≡ frame_of k
@@ -118,7 +115,7 @@ module _ (st : State) (start : ℕ) (memory begun : List ℕ) (x : ℕ) (xs b : 
       → said (lines_from begun' (xs ++ b)) ≡ frames_in begun' xs ++ said (lines_from (piece_outcome st start memory begun' xs).begun b)
       → said (lines_from begun (x ∷ (xs ++ b))) ≡ frames_in begun (x ∷ xs) ++ said (lines_from (piece_outcome st start memory begun (x ∷ xs)).begun b)
   told-step (yes e) h k =
-      rw (lines_lf begun x (xs ++ b) e, frames_lf begun x xs e, fed-lf st start memory begun x xs e) (ap (λ (fs : List Framed). frame_of begun ∷ fs) h)
+      rw (lines_lf begun x (xs ++ b) e, frames_lf begun x xs e, fed-lf st start memory begun x xs e) (ap (λ (fs : List (Option Step)). frame_of begun ∷ fs) h)
   told-step (no e) h k =
       rw (lines_other begun x (xs ++ b) e, frames_other begun x xs e, fed-other st start memory begun x xs e)
       (said_same (begun ++ (x ∷ [])) begun' (xs ++ b) (sym (take-take 14 14 (begun ++ (x ∷ [])) (omega arith))) ∙ k)
@@ -136,7 +133,7 @@ unfolding steps_in
 steps_said [] = refl
 steps_said (l ∷ ls) = ap (λ (ss : List Step). framed (frame_of l) ++ ss) (steps_said ls)
 
-steps_append : (fs gs : List Framed) → steps_of (fs ++ gs) ≡ steps_of fs ++ steps_of gs
+steps_append : (fs gs : List (Option Step)) → steps_of (fs ++ gs) ≡ steps_of fs ++ steps_of gs
 steps_append [] gs = refl
 steps_append (f ∷ fs) gs = ap (λ (ss : List Step). framed f ++ ss) (steps_append fs gs) ∙ sym (append_assoc (framed f) (steps_of fs) (steps_of gs))
 

@@ -1,15 +1,14 @@
 -- Texts joined after an LF, and a text as a run of its steps.
-use Rattle.std.proofs.Common.{◌≡◌, ℕ, List, [], ◌∷◌, ◌++◌, refl, ap, ◌∙◌}
+use Rattle.std.proofs.Common.{◌≡◌, ℕ, Option, Some, None, List, [], ◌∷◌, ◌++◌, refl, ap, ◌∙◌}
 use native.Mathlib.Decide.{ℕ_discrete}
 use Rattle.machine.specs.State.{State}
 use Rattle.machine.specs.Step.{step_of}
 use Rattle.machine.specs.Event.{answers}
 use Rattle.machine.specs.Run.{RunOutcome, run}
+use Rattle.machine.specs.declared.Step.{Step}
 use Rattle.machine.specs.declared.Answer.{Answer}
 use Rattle.lines.specs.Lines.{lines_from, lines}
 use Rattle.lines.proofs.Lines.{lines_lf, lines_other, lines_stop}
-use Rattle.frame.specs.declared.Framed.{Framed}
-use Rattle.frame.specs.declared.Framed.TheVariants.{Frame, NotAFrame}
 use Rattle.frame.specs.Frame.{frame_of, framed_outcome}
 use Rattle.frame_log.specs.Log.{line_outcome, log_of, TextOutcome, lines_outcome, after}
 use Rattle.frame_log.specs.Promises.{OneAnswerEach, TextsJoined, framed, steps_in, to_frame, to_frames, TextIsRun, TextRuns}
@@ -54,19 +53,19 @@ texts_joined set st start memory a b first e =
 
 module _ (st : State) (start : ℕ) (memory : List ℕ) (ls : List (List ℕ)) where
   -- what a line's outcome leaves to the others
-  abbrev rest : Framed → TextOutcome
+  abbrev rest : Option Step → TextOutcome
   rest f = lines_outcome (framed_outcome f st start memory).state start (framed_outcome f st start memory).memory ls
 
-  abbrev ran : Framed → RunOutcome
+  abbrev ran : Option Step → RunOutcome
   ran f = run st start memory (framed f ++ steps_in ls)
 
-  runs-step : (f : Framed) → TextIsRun ls (rest f) (run (framed_outcome f st start memory).state start (framed_outcome f st start memory).memory (steps_in ls))
+  runs-step : (f : Option Step) → TextIsRun ls (rest f) (run (framed_outcome f st start memory).state start (framed_outcome f st start memory).memory (steps_in ls))
       → ((rest f).state ≡ (ran f).state)
       × ((rest f).memory ≡ (ran f).memory)
       × (to_frame f (framed_outcome f st start memory).answer ++ to_frames ls (rest f).answers ≡ answers (ran f).events)
   unfolding framed_outcome
-  runs-step (Frame s) h = (h.state, h.memory, ap (λ (l : List Answer). (step_of st start memory s).answer ∷ l) h.answers)
-  runs-step NotAFrame h = (h.state, h.memory, h.answers)
+  runs-step (Some s) h = (h.state, h.memory, ap (λ (l : List Answer). (step_of st start memory s).answer ∷ l) h.answers)
+  runs-step None h = (h.state, h.memory, h.answers)
 
 pub text_runs : TextRuns
 unfolding lines_outcome steps_in to_frames line_outcome

@@ -2,8 +2,9 @@
 --     whole-line    a line that stands in the piece whole, with its LF
 --     frame_line_lem    a frame with an LF behind it is such a line, of 13 bytes
 --     line-takes, part-takes, lf-takes, byte-takes    a turn that takes a whole line, the LF of a line that is carried, any other byte
---     turn-ended, turn_on    what is fed from a turn on
-use Rattle.std.proofs.Common.{◌≡◌, ℕ, zero, suc, ◌+◌, ◌<◌, ◌≤◌, Bool, true, false, cond, eqb, ltb, List, [], ◌∷◌, ◌++◌, length, get_or, take, drop, sym, refl, ap, ◌∙◌, true≢false, append_assoc, append-nil, add-one, arith, length-append, length-drop, length-take-le, drop-cons, drop-drop, eq-eqb, ne_eqb, eqb-true}
+--     tells_on    turns one after the other
+--     line_told, none_told    what is fed from a line on, and where no other ends
+use Rattle.std.proofs.Common.{◌≡◌, ℕ, Option, Some, None, zero, suc, ◌+◌, ◌<◌, ◌≤◌, Bool, true, false, cond, eqb, ltb, List, [], ◌∷◌, ◌++◌, length, get_or, take, drop, sym, refl, ap, ◌∙◌, true≢false, append_assoc, append-nil, add-one, arith, length-append, length-drop, length-take-le, drop-cons, drop-drop, eq-eqb, ne_eqb, eqb-true}
 use native.Mathlib.Decide.{dec_le, ℕ_discrete}
 use Rattle.machine.specs.State.{State}
 use Rattle.machine.specs.Step.{Outcome}
@@ -13,14 +14,12 @@ use Rattle.hex_digits.specs.Hex.{hex_digits, place_in, digit_number, all_digits}
 use Rattle.laws.proofs.Below.{both}
 use Rattle.lines.specs.Lines.{until_lf, line_at, line_end}
 use Rattle.lines.proofs.Positions.{until_lf_lem, until_more, end-within}
-use Rattle.frame.specs.declared.Framed.{Framed}
-use Rattle.frame.specs.declared.Framed.TheVariants.{Frame, NotAFrame}
 use Rattle.frame.proofs.Stands.{getd_within}
 use Rattle.frame.specs.Frame.{is_frame, frame_of, frame_in, framed_outcome}
-use Rattle.frame_log.specs.declared.Turn.{Turn}
+use Rattle.frame_log.specs.declared.progress.Progress.{Progress}
 use Rattle.frame_log.specs.Log.{line_outcome, answering, PieceOutcome, piece_outcome, frames_in}
-use Rattle.frame_log.specs.Results.{TurnPromised}
-use Rattle.frame_log.proofs.Carried.{fed-lf, fed-other, after_fed}
+use Rattle.frame_log.specs.Results.{begun_at, Tells, TurnPromised, LinePromised}
+use Rattle.frame_log.proofs.Carried.{fed-lf, fed-other, fed-none, after_fed}
 use Rattle.frame_log.proofs.Pieces.{frame_clip, take_clip}
 
 -- ---- a whole line
@@ -62,7 +61,7 @@ unfolding frames_in
 frames_other begun x xs e = simp (ne_eqb x 10 e)
 
 -- what a line says, then the rest
-abbrev said : List ℕ → List ℕ → List Framed
+abbrev said : List ℕ → List ℕ → List (Option Step)
 said line rest = frame_of line ∷ frames_in [] rest
 
 frames_by : (begun : List ℕ) (x : ℕ) (xs : List ℕ) → Dec (x ≡ 10)
@@ -98,90 +97,93 @@ until_digits (suc n) (x ∷ xs) d e =
 pub record FrameLine (xs : List ℕ) (s : Step) : Type 0 where
   pub until : until_lf xs ≡ 13
   pub more : 13 < length xs
-  pub says : frame_of (take 13 xs) ≡ Frame s
+  pub says : frame_of (take 13 xs) ≡ Some s
 
-no_frame : (s : Step) → NotAFrame ≡ Frame s → ⊥
+no_frame : (s : Step) → None ≡ Some s → ⊥
 no_frame s e = let w : ◌≡◌ {A = ℕ} 0 1 = cc in absurd (omega arith)
 
-digits_in_lem : (line : List ℕ) (s : Step) (t : Bool) → is_frame line ≡ t → frame_of line ≡ Frame s → all_digits line ≡ true
+digits_in_lem : (line : List ℕ) (s : Step) (t : Bool) → is_frame line ≡ t → frame_of line ≡ Some s → all_digits line ≡ true
 unfolding frame_of is_frame
 digits_in_lem line s true q e = (both (eqb (length line) 13) (all_digits line) q).1
 digits_in_lem line s false q e = absurd (no_frame s (rw q at e))
 
-frame_by : (xs : List ℕ) (s : Step) (t : Bool) → eqb (get_or xs 13 0) 10 ≡ t → cond t (frame_of (take 13 xs)) NotAFrame ≡ Frame s → FrameLine xs s
+frame_by : (xs : List ℕ) (s : Step) (t : Bool) → eqb (get_or xs 13 0) 10 ≡ t → cond t (frame_of (take 13 xs)) None ≡ Some s → FrameLine xs s
 frame_by xs s true q e =
     let lf = eqb-true (get_or xs 13 0) 10 q in
     record { until = until_digits 13 xs (digits_in_lem (take 13 xs) s (is_frame (take 13 xs)) refl e) lf; more = getd_within 13 xs lf; says = e }
 frame_by xs s false q e = absurd (no_frame s e)
 
-pub frame_line_lem : (xs : List ℕ) (s : Step) → frame_in xs ≡ Frame s → FrameLine xs s
+pub frame_line_lem : (xs : List ℕ) (s : Step) → frame_in xs ≡ Some s → FrameLine xs s
 unfolding frame_in
 frame_line_lem xs s e = frame_by xs s (eqb (get_or xs 13 0) 10) refl e
 
 -- ---- a turn
 
-module _ (piece : List ℕ) (at : ℕ) (carried : List ℕ) (whole : length carried ≡ 14) where
-  pub line-takes : (n : ℕ) (f : Framed) → until_lf (drop at piece) ≡ n → at + n < length piece → f ≡ frame_of (take n (drop at piece))
-      → TurnPromised [] piece at (record { next = at + n + 1; len = 0; ended = true; framed = f }) carried
+module _ (p q : Progress) (piece : List ℕ) where
+  pub line-takes : (n : ℕ) (f : Option Step) → p.len ≡ 0 → q.len ≡ 0 → q.at ≡ p.at + n + 1 → until_lf (drop p.at piece) ≡ n → p.at + n < length piece
+      → f ≡ frame_of (take n (drop p.at piece)) → TurnPromised p piece (Some f) q
   unfolding line_outcome
-  line-takes n f u h e =
-      let past : at + suc n ≡ at + n + 1 = omega arith in
-      let rest : drop (suc n) (drop at piece) ≡ drop (at + n + 1) piece = drop-drop (suc n) at piece ∙ ap (λ (k : ℕ). drop k piece) past in
+  line-takes n f pl ql qa u h e =
+      let past : p.at + suc n ≡ p.at + n + 1 = omega arith in
+      let rest : drop (suc n) (drop p.at piece) ≡ drop (p.at + n + 1) piece = drop-drop (suc n) p.at piece ∙ ap (λ (k : ℕ). drop k piece) past in
       record {
         above = omega arith;
         within = omega arith;
-        few = omega arith;
-        whole = whole;
-        fed = λ st start memory. whole-line st start memory (drop at piece) (omega (arith, u, length-drop at piece)) ∙ rw (u, rest, e);
-        says = frames_from [] (drop at piece) (omega (arith, u, length-drop at piece)) ∙ rw (u, rest, e);
+        tells = record {
+          fed = λ st start memory. rw (pl, ql, qa) (whole-line st start memory (drop p.at piece) (omega (arith, u, length-drop p.at piece)) ∙ rw (u, rest, e));
+          says = rw (pl, ql, qa) (frames_from [] (drop p.at piece) (omega (arith, u, length-drop p.at piece)) ∙ rw (u, rest, e));
+        };
       }
 
-  pub part-takes : (line : List ℕ) (f : Framed) → line ≡ line_at piece at → at ≤ length piece → at + length line < length piece → f ≡ frame_of line
-      → TurnPromised [] piece at (record { next = at + length line + 1; len = 0; ended = true; framed = f }) carried
+  pub part-takes : (line : List ℕ) (f : Option Step) → p.len ≡ 0 → q.len ≡ 0 → q.at ≡ p.at + length line + 1 → line ≡ line_at piece p.at → p.at ≤ length piece
+      → p.at + length line < length piece → f ≡ frame_of line → TurnPromised p piece (Some f) q
   unfolding line_at line_end
-  part-takes line f l h k e =
-      let n : until_lf (drop at piece) ≡ length line =
-      sym (ap length l ∙ length-take-le (until_lf (drop at piece)) (drop at piece) (omega (arith, end-within piece at h, length-drop at piece))) in
-      line-takes (length line) f n k (e ∙ ap frame_of (l ∙ ap (λ (j : ℕ). take j (drop at piece)) n))
+  part-takes line f pl ql qa l h k e =
+      let n : until_lf (drop p.at piece) ≡ length line =
+      sym (ap length l ∙ length-take-le (until_lf (drop p.at piece)) (drop p.at piece) (omega (arith, end-within piece p.at h, length-drop p.at piece))) in
+      line-takes (length line) f pl ql qa n k (e ∙ ap frame_of (l ∙ ap (λ (j : ℕ). take j (drop p.at piece)) n))
 
-  module _ (len : ℕ) (h : at < length piece) where
-    pub lf-takes : (f : Framed) → get_or piece at 0 ≡ 10 → f ≡ frame_of (take len carried)
-        → TurnPromised (take len carried) piece at (record { next = at + 1; len = 0; ended = true; framed = f }) carried
+  module _ (h : p.at < length piece) (qa : q.at ≡ p.at + 1) where
+    pub lf-takes : (f : Option Step) → q.len ≡ 0 → get_or piece p.at 0 ≡ 10 → f ≡ frame_of (begun_at p) → TurnPromised p piece (Some f) q
     unfolding line_outcome
-    lf-takes f x e =
+    lf-takes f ql x e =
         record {
           above = omega arith;
           within = omega arith;
-          few = omega arith;
-          whole = whole;
-          fed = λ st start memory. rw (add-one, e) (rw (drop-cons piece at 0 h) (fed-lf st start memory (take len carried) (get_or piece at 0) (drop (suc at) piece) x));
-          says = rw (add-one, e) (rw (drop-cons piece at 0 h) (frames_lf (take len carried) (get_or piece at 0) (drop (suc at) piece) x));
+          tells = record {
+            fed = λ st start memory. rw (ql, qa, add-one, e) (rw (drop-cons piece p.at 0 h) (fed-lf st start memory (begun_at p) (get_or piece p.at 0) (drop (suc p.at) piece) x));
+            says = rw (ql, qa, add-one, e) (rw (drop-cons piece p.at 0 h) (frames_lf (begun_at p) (get_or piece p.at 0) (drop (suc p.at) piece) x));
+          };
         }
 
-    pub byte-takes : (bytes : List ℕ) (more : ℕ) → (get_or piece at 0 ≡ 10 → ⊥) → length bytes ≡ 14 → more ≤ 14
-        → take 14 (take len carried ++ (get_or piece at 0 ∷ [])) ≡ take more bytes
-        → TurnPromised (take len carried) piece at (record { next = at + 1; len = more; ended = false; framed = NotAFrame }) bytes
-    byte-takes bytes more x n few e =
+    pub byte-takes : (get_or piece p.at 0 ≡ 10 → ⊥) → take 14 (begun_at p ++ (get_or piece p.at 0 ∷ [])) ≡ begun_at q → TurnPromised p piece None q
+    byte-takes x e =
         record {
           above = omega arith;
           within = omega arith;
-          few = few;
-          whole = n;
-          fed = λ st start memory. rw (add-one, ← e) (rw (drop-cons piece at 0 h) (fed-other st start memory (take len carried) (get_or piece at 0) (drop (suc at) piece) x));
-          says = rw (add-one, ← e) (rw (drop-cons piece at 0 h) (frames_other (take len carried) (get_or piece at 0) (drop (suc at) piece) x));
+          tells = record {
+            fed = λ st start memory. rw (qa, add-one, ← e) (rw (drop-cons piece p.at 0 h) (fed-other st start memory (begun_at p) (get_or piece p.at 0) (drop (suc p.at) piece) x));
+            says = rw (qa, add-one, ← e) (rw (drop-cons piece p.at 0 h) (frames_other (begun_at p) (get_or piece p.at 0) (drop (suc p.at) piece) x));
+          };
         }
 
-module _ {begun piece : List ℕ} {at : ℕ} {t : Turn} {bytes : List ℕ} (T : TurnPromised begun piece at t bytes) (st : State) (start : ℕ) (memory : List ℕ) (done : List Answer) where
-  -- what is fed after this turn, from a state and a memory
-  abbrev rest : State → List ℕ → PieceOutcome
-  rest st' memory' = piece_outcome st' start memory' (take t.len bytes) (drop t.next piece)
+-- ---- a line
 
-  pub turn-ended : t.ended ≡ true → (o : Outcome) → o ≡ framed_outcome t.framed st start memory
-      → after_fed done (piece_outcome st start memory begun (drop at piece)) ≡ after_fed (done ++ (o.answer ∷ [])) (rest o.state o.memory)
-  turn-ended e o q = rw (T.fed st start memory, e, ← q, append_assoc)
+-- turns that tell of no line, then one more
+pub tells_on : {p q s : Progress} {piece : List ℕ} {r : Option (Option Step)} → Tells p piece None q → Tells q piece r s → Tells p piece r s
+tells_on a b = record { fed = λ st start memory. a.fed st start memory ∙ b.fed st start memory; says = a.says ∙ b.says }
 
-  pub turn_on : t.ended ≡ false → after_fed done (piece_outcome st start memory begun (drop at piece)) ≡ after_fed done (rest st memory)
-  turn_on e = rw (T.fed st start memory, e)
+module _ (p q : Progress) (piece : List ℕ) (st : State) (start : ℕ) (memory : List ℕ) (done : List Answer) where
+  -- what is fed at a place, from a state and a memory
+  abbrev rest : Progress → State → List ℕ → PieceOutcome
+  rest r st' memory' = piece_outcome st' start memory' (begun_at r) (drop r.at piece)
+
+  pub line_told : (said : Option Step) → LinePromised p piece (Some said) q → (o : Outcome) → o ≡ framed_outcome said st start memory
+      → after_fed done (rest p st memory) ≡ after_fed (done ++ (o.answer ∷ [])) (rest q o.state o.memory)
+  line_told said T o e = rw (T.tells.fed st start memory, ← e, append_assoc)
+
+  pub none_told : LinePromised p piece None q → after_fed done (rest p st memory) ≡ record { state = st; memory = memory; begun = begun_at q; answers = done }
+  none_told T = ap (after_fed done) (T.tells.fed st start memory) ∙ fed-none st start memory (begun_at q) piece done q.at T.place
 
 -- so there is an answer more
 pub more_answers : (f : PieceOutcome) (done : List Answer) (a : Answer) (g : PieceOutcome) → f ≡ after_fed (done ++ (a ∷ [])) g → length done < length f.answers

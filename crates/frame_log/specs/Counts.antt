@@ -1,5 +1,5 @@
 -- The done cycles of a text, counted (document 02, Ask 8), of a text that comes in pieces.
-use Rattle.std.specs.Prelude.{◌≡◌, ℕ, ◌+◌, ◌%◌, ◌^◌, Bool, false, cond, ◌&&◌, List, [], ◌∷◌, ◌++◌, ◌==◌}
+use Rattle.std.specs.Prelude.{◌≡◌, ℕ, Option, Some, None, ◌+◌, ◌%◌, ◌^◌, Bool, false, cond, ◌&&◌, List, [], ◌∷◌, ◌++◌, ◌==◌}
 use Rattle.machine.specs.State.{State}
 use Rattle.machine.specs.Event.{Event}
 use Rattle.machine.specs.Run.{RunOutcome, run}
@@ -7,31 +7,29 @@ use Rattle.machine.specs.declared.Step.{Step}
 use Rattle.machine.specs.declared.Answer.{Answer}
 use Rattle.controller.specs.Controller.{state_of}
 use Rattle.lines.specs.Lines.{lines, lines_from}
-use Rattle.frame.specs.declared.Framed.{Framed}
-use Rattle.frame.specs.declared.Framed.TheVariants.{Frame, NotAFrame}
 use Rattle.frame_log.specs.declared.Counted.{Counted}
 use Rattle.frame_log.specs.Log.{frames_in, piece_outcome}
 use Rattle.frame_log.specs.Promises.{joined, framed, steps_in}
 use Rattle.frame_log.specs.Results.{begun_of}
 
 -- the steps of frames, and a frame with its answer
-abbrev pub steps_of : List Framed → List Step
+abbrev pub steps_of : List (Option Step) → List Step
 steps_of [] = []
 steps_of (f ∷ fs) = framed f ++ steps_of fs
 
-abbrev pub events_of : Framed → Answer → List Event
-events_of (Frame s) a = record { step = s; answer = a } ∷ []
-events_of NotAFrame a = []
+abbrev pub events_of : Option Step → Answer → List Event
+events_of (Some s) a = record { step = s; answer = a } ∷ []
+events_of None a = []
 
 -- a cycle of a kind that answered done
-abbrev pub is_done_cycle : ℕ → Framed → Answer → Bool
-is_done_cycle kind (Frame s) a = a.code == 0 && s.kind == kind
-is_done_cycle kind NotAFrame a = false
+abbrev pub is_done_cycle : ℕ → Option Step → Answer → Bool
+is_done_cycle kind (Some s) a = a.code == 0 && s.kind == kind
+is_done_cycle kind None a = false
 
 -- how many such cycles there are among events
 unfoldable pub cycles_of : ℕ → List Event → ℕ
 cycles_of kind [] = 0
-cycles_of kind (e ∷ es) = cond (is_done_cycle kind (Frame e.step) e.answer) 1 0 + cycles_of kind es
+cycles_of kind (e ∷ es) = cond (is_done_cycle kind (Some e.step) e.answer) 1 0 + cycles_of kind es
 
 -- the run of the steps of the lines that end in a piece, after the bytes `begun`
 abbrev pub piece_run : State → ℕ → List ℕ → List ℕ → List ℕ → RunOutcome
@@ -60,7 +58,7 @@ end_count_of st start memory begun writes reads = count_after (run st start memo
 
 -- the outcome of a counted piece
 abbrev pub counted_outcome : Counted → List ℕ → CountOutcome
-counted_outcome r memory = record { state = state_of r.stream.controller; memory = memory; begun = begun_of r.stream; writes = r.writes; reads = r.reads }
+counted_outcome r memory = record { state = state_of r.stream.controller; memory = memory; begun = begun_of r.stream; writes = r.cycles.writes; reads = r.cycles.reads }
 
 -- ---- a text
 

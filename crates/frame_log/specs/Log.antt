@@ -1,10 +1,10 @@
 -- The log of a text, and of a text that comes in pieces.
-use Rattle.std.specs.Prelude.{ℕ, cond, List, [], ◌∷◌, ◌++◌, take, ◌==◌}
+use Rattle.std.specs.Prelude.{ℕ, Option, cond, List, [], ◌∷◌, ◌++◌, take, ◌==◌}
 use Rattle.machine.specs.State.{State}
 use Rattle.machine.specs.Step.{Outcome}
 use Rattle.machine.specs.declared.Answer.{Answer}
 use Rattle.lines.specs.Lines.{lf, lines}
-use Rattle.frame.specs.declared.Framed.{Framed}
+use Rattle.machine.specs.declared.Step.{Step}
 use Rattle.frame.specs.Frame.{frame_of, framed_outcome}
 use Rattle.logline.specs.LogLine.{log_line}
 
@@ -65,6 +65,6 @@ piece_outcome st start memory begun (x ∷ xs) =
     cond (x == lf) (answering o.answer (piece_outcome o.state start o.memory [] xs)) (piece_outcome st start memory (take carried (begun ++ (x ∷ []))) xs)
 
 -- what the lines that end in a piece say, one by one
-unfoldable pub frames_in : List ℕ → List ℕ → List Framed
+unfoldable pub frames_in : List ℕ → List ℕ → List (Option Step)
 frames_in begun [] = []
 frames_in begun (x ∷ xs) = cond (x == lf) (frame_of begun ∷ frames_in [] xs) (frames_in (take carried (begun ++ (x ∷ []))) xs)

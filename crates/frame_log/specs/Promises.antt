@@ -1,5 +1,5 @@
 -- What is promised of the log of a text.
-use Rattle.std.specs.Prelude.{◌≡◌, ℕ, List, [], ◌∷◌, ◌++◌, map, length}
+use Rattle.std.specs.Prelude.{◌≡◌, ℕ, Option, Some, None, List, [], ◌∷◌, ◌++◌, map, length}
 use Rattle.machine.specs.State.{State, reset_state}
 use Rattle.machine.specs.Window.{zero_words}
 use Rattle.machine.specs.Event.{answers}
@@ -8,8 +8,6 @@ use Rattle.machine.specs.declared.Step.{Step}
 use Rattle.machine.specs.declared.Answer.{Answer}
 use Rattle.hex_digits.specs.Hex.{bytes}
 use Rattle.lines.specs.Lines.{lf, lines}
-use Rattle.frame.specs.declared.Framed.{Framed}
-use Rattle.frame.specs.declared.Framed.TheVariants.{Frame, NotAFrame}
 use Rattle.frame.specs.Frame.{frame_of}
 use Rattle.logline.specs.Labels.{english_set}
 use Rattle.logline.specs.LogLine.{log_body}
@@ -61,18 +59,18 @@ PiecesJoined = (st : State) (start : ℕ) (memory : List ℕ) (pieces : List (Li
 -- ---- a text is a run of its steps
 
 -- the steps of the lines that are frames
-abbrev pub framed : Framed → List Step
-framed (Frame s) = s ∷ []
-framed NotAFrame = []
+abbrev pub framed : Option Step → List Step
+framed (Some s) = s ∷ []
+framed None = []
 
 unfoldable pub steps_in : List (List ℕ) → List Step
 steps_in [] = []
 steps_in (line ∷ more) = framed (frame_of line) ++ steps_in more
 
 -- the answers to those lines
-abbrev pub to_frame : Framed → Answer → List Answer
-to_frame (Frame s) a = a ∷ []
-to_frame NotAFrame a = []
+abbrev pub to_frame : Option Step → Answer → List Answer
+to_frame (Some s) a = a ∷ []
+to_frame None a = []
 
 unfoldable pub to_frames : List (List ℕ) → List Answer → List Answer
 to_frames [] answers = []

@@ -1,7 +1,7 @@
 // The log of a text, and of a text that comes in pieces.
 #![tactic(auto)]
 
-ghost use Rattle.std.specs.Prelude.{◌≡◌, ◌+◌, ◌*◌, ◌%◌, ◌^◌, ◌<◌, ◌≤◌, min, true, [], length, take, if◌then◌else◌};
+ghost use Rattle.std.specs.Prelude.{◌≡◌, ◌+◌, ◌*◌, ◌%◌, ◌^◌, ◌<◌, ◌≤◌, [], length, if◌then◌else◌};
 ghost use Rattle.machine.specs.State.{State, reset_state};
 ghost use Rattle.machine.specs.Step.{not_aframe};
 ghost use Rattle.controller.specs.Controller.{state_of};
@@ -13,47 +13,29 @@ ghost use Rattle.lines.specs.Lines.{lines_from};
 ghost use Rattle.frame.specs.Frame.{framed_outcome};
 ghost use Rattle.logline.specs.LogLine.{line_room};
 ghost use Rattle.frame_log.specs.Log.{line_outcome, lines_outcome, piece_outcome};
-ghost use Rattle.frame_log.specs.Results.{RunPromised, TextLogged, begun_of, TurnPromised, PieceLogged, FeedPromised};
+ghost use Rattle.frame_log.specs.Results.{RunPromised, TextLogged, begun_of, begun_at, TurnPromised, LinePromised, PieceLogged, FeedPromised};
 ghost use Rattle.frame_log.specs.Counts.{is_done_cycle, count_of, end_count_of, counted_outcome};
 
+mod progress;
+
 use controller::Controller;
-use frame::Framed;
 use logline::LINE_ROOM;
-use machine::{Answer, codes, kinds};
+use machine::{Answer, Refusal, Step, StepKind, codes};
+use progress::Progress;
+use std::fmt;
 use step::Stepped;
 
 // ---- a line
 
 // The answer to a line that is no frame: code 14, with the lines of INTCSR and AINT.
-fn not_a_frame(i: u32, a: u32) -> Answer
-    ensures { (st : State) → st.intcsr ≡ i → st.aint ≡ a → result ≡ not_aframe st }
+fn not_a_frame(intcsr: u32, aint: u32) -> Answer
+    ensures { (st : State) → st.intcsr ≡ intcsr → st.aint ≡ aint → result ≡ not_aframe st }
 {
-    let line = interrupts::line(i);
-    let addon_line = interrupts::line(a);
     Answer {
-        code: codes::NOT_A_FRAME_LINE,
-        address: 0,
-        value: 0,
-        enables: 0,
-        line,
-        addon_line,
-        changed: 0,
-    }
-}
-
-// What a line says is answered: a step, or code 14.
-fn answer(c: Controller, memory: &mut [u32], start: u32, f: Framed) -> Stepped
-    ensures { outcome_of result memory.new ≡ framed_outcome f (state_of c) start memory.old }
-{
-    match f {
-        Framed::Frame(s) => step::step(c, memory, start, s),
-        Framed::NotAFrame => {
-            let answer = not_a_frame(c.intcsr, c.aint);
-            Stepped {
-                controller: c,
-                answer,
-            }
-        }
+        code: u32::from(Refusal::NotAFrameLine),
+        line: interrupts::line(intcsr),
+        addon_line: interrupts::line(aint),
+        ..Answer::default()
     }
 }
 
@@ -61,15 +43,23 @@ fn answer(c: Controller, memory: &mut [u32], start: u32, f: Framed) -> Stepped
 pub fn answer_line(c: Controller, memory: &mut [u32], start: u32, line: &[u8]) -> Stepped
     ensures { outcome_of result memory.new ≡ line_outcome (state_of c) start memory.old line.now }
 {
-    let f = frame::frame(line);
-    answer(c, memory, start, f)
+    match frame::frame(line) {
+        Some(s) => step::step(c, memory, start, s),
+        None => Stepped {
+            controller: c,
+            answer: not_a_frame(c.intcsr, c.aint),
+        },
+    }
 }
 
-// How many bytes of log stand at the output's start, or that it has too little room.
-#[derive(Clone, Copy)]
-pub enum Logged {
-    Written(usize),
-    NoRoom,
+// Why a log is not written: the output has too little room for it.
+#[derive(Clone, Copy, Debug, PartialEq, Eq)]
+pub struct NoRoom;
+
+impl fmt::Display for NoRoom {
+    fn fmt<W: fmt::Write>(&self, f: &mut fmt::Formatter<W>) -> fmt::Result {
+        f.write_str("no room for the log")
+    }
 }
 
 // ---- a text in pieces, which end anywhere
@@ -83,10 +73,11 @@ pub struct Stream {
     pub len: usize,
 }
 
+// A stream after a piece, and how many bytes of log stand at the output's start.
 #[derive(Clone, Copy)]
 pub struct Streamed {
     pub stream: Stream,
-    pub log: Logged,
+    pub log: Result<usize, NoRoom>,
 }
 
 // A stream after a piece, and the place past the log.
@@ -97,14 +88,14 @@ struct Streaming {
 }
 
 // The stream of a text that has not begun.
+#[tactic(auto, unfolding(crate::specs::Results::begun_of))]
 fn not_begun(controller: Controller) -> Stream
     ensures { (state_of result.controller ≡ state_of controller) × (begun_of result ≡ []) }
 {
-    let len = 0;
     Stream {
         controller,
         bytes: [0; 14],
-        len,
+        len: 0,
     }
 }
 
@@ -115,96 +106,105 @@ pub fn start() -> Stream
     not_begun(controller::reset())
 }
 
-// How many of the carried bytes count.
-fn kept(len: usize) -> usize
-    ensures { result ≡ min len 14 }
-{
-    if len < 14 { len } else { 14 }
-}
+impl Progress {
+    // The start of a piece, after what a stream carries.
+    fn begin(s: Stream) -> Progress
+        ensures { (result.at ≡ 0) × (begun_at result ≡ begun_of s) }
+    {
+        let bytes = s.bytes;
+        Progress {
+            at: 0,
+            bytes,
+            len: s.len.min(14),
+        }
+    }
 
-// What is taken of a piece in a turn: a line that has ended, and what it says; or a byte more of one that has not, which is carried.
-#[derive(Clone, Copy)]
-struct Turn {
-    next: usize,
-    len: usize,
-    ended: bool,
-    framed: Framed,
-}
+    // What is carried to the next piece, with the controller as words.
+    #[tactic(auto, unfolding(crate::specs::Results::begun_of))]
+    fn end(self, words: [u32; 38]) -> Stream
+        ensures { (state_of result.controller ≡ state_of_words words) × (begun_of result ≡ begun_at self) }
+    {
+        let controller = bank::controller_of(words);
+        let bytes = self.bytes;
+        Stream {
+            controller,
+            bytes,
+            len: self.len,
+        }
+    }
 
-// A line that has ended before a place: nothing of it is carried.
-fn line_taken(next: usize, framed: Framed) -> Turn
-    ensures { result ≡ record { next = next; len = 0; ended = true; framed = framed } }
-{
-    Turn {
-        next,
-        len: 0,
-        ended: true,
-        framed,
+    // The next byte: LF ends the line, and what it says is told; any other is carried while there is room.
+    fn take_byte(&mut self, piece: &[u8]) -> Option<Option<Step>>
+        requires { self.old.at < length piece.now }
+        ensures { TurnPromised self.old piece.now result self.new }
+    {
+        let x = piece[self.at];
+        self.at += 1;
+        if x == b'\n' {
+            let said = frame::frame(&self.bytes[..self.len]);
+            self.len = 0;
+            return Some(said);
+        }
+        if self.len < 14 {
+            self.bytes[self.len] = x;
+            self.len += 1;
+        }
+        None
     }
-}
 
-// The next byte of a line that has begun, of which `len` bytes are carried.
-fn byte_taken(piece: &[u8], at: usize, carried: &mut [u8], len: usize) -> Turn
-    requires at_in_bounds { at < length piece.now }
-    requires len_bound { len ≤ 14 }
-    requires carried_len { length carried.old ≡ 14 }
-    ensures { TurnPromised (take len carried.old) piece.now at result carried.new }
-{
-    let x = piece[at];
-    if x == b'\n' {
-        return line_taken(at + 1, frame::frame(&carried[..len]));
+    // A turn: a line that stands in the piece whole is read where it stands; of any other, byte by byte, the first bytes are carried.
+    // What is told is what a line says that has ended, if one has.
+    fn turn(&mut self, piece: &[u8]) -> Option<Option<Step>>
+        requires { self.old.at < length piece.now }
+        ensures { TurnPromised self.old piece.now result self.new }
+    {
+        if self.len != 0 {
+            return self.take_byte(piece);
+        }
+        if let Some(s) = frame::frame_at(piece, self.at) {
+            self.at += 14;
+            return Some(Some(s));
+        }
+        let line = lines::line_at(piece, self.at);
+        let end = self.at + line.len();
+        if end < piece.len() {
+            self.at = end + 1;
+            return Some(frame::frame(line));
+        }
+        self.take_byte(piece)
     }
-    if len < 14 {
-        carried[len] = x;
-        return Turn {
-            next: at + 1,
-            len: len + 1,
-            ended: false,
-            framed: Framed::NotAFrame,
-        };
-    }
-    Turn {
-        next: at + 1,
-        len,
-        ended: false,
-        framed: Framed::NotAFrame,
-    }
-}
 
-// A line that stands in the piece whole is read where it stands; of any other, byte by byte, the first bytes are carried.
-fn taken(piece: &[u8], at: usize, carried: &mut [u8], len: usize) -> Turn
-    requires at_in_bounds { at < length piece.now }
-    requires len_bound { len ≤ 14 }
-    requires carried_len { length carried.old ≡ 14 }
-    ensures { TurnPromised (take len carried.old) piece.now at result carried.new }
-{
-    if len != 0 {
-        return byte_taken(piece, at, carried, len);
+    // What the next line says that ends in the piece; none if no other does, and then the piece is read to its end.
+    fn next_line(&mut self, piece: &[u8]) -> Option<Option<Step>>
+        ensures { LinePromised self.old piece.now result self.new }
+    {
+        while self.at < piece.len() {
+            if let Some(said) = self.turn(piece) {
+                return Some(said);
+            }
+        }
+        None
     }
-    if let Framed::Frame(s) = frame::frame_at(piece, at) {
-        return line_taken(at + 14, Framed::Frame(s));
-    }
-    let line = lines::line_at(piece, at);
-    let end = at + line.len();
-    if end < piece.len() {
-        return line_taken(end + 1, frame::frame(line));
-    }
-    byte_taken(piece, at, carried, len)
 }
 
 // What a line says is answered, on a controller's words: a step, or code 14. Codes 1 and 2 are tested already, and stay as they are.
-fn answer_words(words: &mut [u32], memory: &mut [u32], start: u32, form: u32, f: Framed) -> Answer
-    requires words_len { length words.old ≡ 38 }
-    requires form_value { form ≡ form_code (state_of_words words.old) start (length memory.old) }
-    ensures { outcome_in words.new memory.new result ≡ framed_outcome f (state_of_words words.old) start memory.old }
+fn answer_words(
+    words: &mut [u32; 38],
+    memory: &mut [u32],
+    start: u32,
+    form: u32,
+    said: Option<Step>,
+) -> Answer
+    requires { form ≡ form_code (state_of_words words.old) start (length memory.old) }
+    ensures { outcome_in words.new memory.new result ≡ framed_outcome said (state_of_words words.old) start memory.old }
 {
-    match f {
-        Framed::Frame(s) => step::in_words(words, memory, start, form, s),
-        Framed::NotAFrame => not_a_frame(words[bank::INTCSR], words[bank::AINT]),
+    match said {
+        Some(s) => step::in_words(words, memory, start, form, s),
+        None => not_a_frame(words[bank::INTCSR], words[bank::AINT]),
     }
 }
 
-// A piece, with room for its log from a place on: turn by turn, and each line that has ended is answered.
+// A piece, with room for its log from a place on: each line that ends in it is answered, and has its log line.
 fn feed_bytes(
     s: Stream,
     memory: &mut [u32],
@@ -219,27 +219,16 @@ fn feed_bytes(
 {
     let mut words = bank::words_of(s.controller);
     let form = refusal::form(bank::bank_in(&words), start, memory.len());
-    let mut bytes = s.bytes;
-    let mut len = kept(s.len);
-    let mut n = at;
-    let mut i = 0;
-    while i < piece.len() {
-        let t = taken(piece, i, &mut bytes, len);
-        i = t.next;
-        len = t.len;
-        if t.ended {
-            let f = t.framed;
-            let a = answer_words(&mut words, memory, start, form, f);
-            n = logline::put_line(out, n, a, set);
-        }
+    let mut progress = Progress::begin(s);
+    let mut next = at;
+    while let Some(said) = progress.next_line(piece) {
+        let a = answer_words(&mut words, memory, start, form, said);
+        next = logline::put_line(out, next, a, set);
     }
-    let controller = bank::controller_of(words);
-    let stream = Stream {
-        controller,
-        bytes,
-        len,
-    };
-    Streaming { stream, next: n }
+    Streaming {
+        stream: progress.end(words),
+        next,
+    }
 }
 
 // One piece: the log of the lines that end in it stands at the output's start, with the labels of a set. Where the output has
@@ -257,23 +246,23 @@ pub fn feed(
     if out.len() / LINE_ROOM < piece.len() {
         return Streamed {
             stream: s,
-            log: Logged::NoRoom,
+            log: Err(NoRoom),
         };
     }
-    let f = feed_bytes(s, memory, start, piece, out, 0, set);
-    let stream = f.stream;
+    let fed = feed_bytes(s, memory, start, piece, out, 0, set);
     Streamed {
-        stream,
-        log: Logged::Written(f.next),
+        stream: fed.stream,
+        log: Ok(fed.next),
     }
 }
 
 // ---- a text
 
+// The controller after a text, and how many bytes of log stand at the output's start.
 #[derive(Clone, Copy)]
 pub struct Ran {
     pub controller: Controller,
-    pub log: Logged,
+    pub log: Result<usize, NoRoom>,
 }
 
 // The end of a text ends a line that isn't empty, as an LF does.
@@ -313,17 +302,14 @@ pub fn run(
     if out.len() / LINE_ROOM < n {
         return Ran {
             controller: c,
-            log: Logged::NoRoom,
+            log: Err(NoRoom),
         };
     }
-    let f = feed_bytes(not_begun(c), memory, start, text, out, 0, set);
-    let fed = f.stream;
-    let g = end_line(fed, memory, start, out, f.next, set);
-    let stream = g.stream;
-    let controller = stream.controller;
+    let fed = feed_bytes(not_begun(c), memory, start, text, out, 0, set);
+    let ended = end_line(fed.stream, memory, start, out, fed.next, set);
     Ran {
-        controller,
-        log: Logged::Written(g.next),
+        controller: ended.stream.controller,
+        log: Ok(ended.next),
     }
 }
 
@@ -332,93 +318,79 @@ pub fn finish(s: Stream, memory: &mut [u32], start: u32, out: &mut [u8], set: u3
     ensures { RunPromised set s.controller start memory.old (begun_of s) out.old result memory.new out.new }
 {
     let bytes = s.bytes;
-    let len = kept(s.len);
-    let controller = s.controller;
-    run(controller, memory, start, &bytes[..len], out, set)
+    let len = s.len.min(14);
+    run(s.controller, memory, start, &bytes[..len], out, set)
 }
 
 // ---- the cycles of a text, counted
 
-// A stream after a piece, and how many write cycles and read cycles are done, modulo 2^32.
-#[derive(Clone, Copy)]
-pub struct Counted {
-    pub stream: Stream,
+// How many write cycles and read cycles are done, modulo 2^32.
+#[derive(Clone, Copy, Debug, Default, PartialEq, Eq)]
+pub struct Cycles {
     pub writes: u32,
     pub reads: u32,
 }
 
-// Whether a line was a cycle of a kind, and is done.
-fn is_done_cycle(kind: u32, f: Framed, a: Answer) -> bool
-    ensures { result ≡ is_done_cycle kind f a }
-{
-    match f {
-        Framed::Frame(s) => a.code == codes::DONE && s.kind == kind,
-        Framed::NotAFrame => false,
+impl Cycles {
+    // With a line more: a done cycle is one more of its kind.
+    fn with_line(self, said: Option<Step>, a: Answer) -> Cycles
+        ensures writes { result.writes ≡ (self.writes + (if is_done_cycle 4 said a then 1 else 0)) % 2 ^ 32 }
+        ensures reads { result.reads ≡ (self.reads + (if is_done_cycle 5 said a then 1 else 0)) % 2 ^ 32 }
+    {
+        let Some(s) = said else {
+            return self;
+        };
+        if a.code != codes::DONE {
+            return self;
+        }
+        match StepKind::try_from(s.kind) {
+            Ok(StepKind::WriteCycle) => Cycles {
+                writes: self.writes.wrapping_add(1),
+                ..self
+            },
+            Ok(StepKind::ReadCycle) => Cycles {
+                reads: self.reads.wrapping_add(1),
+                ..self
+            },
+            _ => self,
+        }
     }
 }
 
-// A number, and one more if something counts.
-fn counting(n: u32, counts: bool) -> u32
-    ensures { result ≡ (n + (if counts then 1 else 0)) % 2 ^ 32 }
-{
-    if counts {
-        return std::num::wrapping_add_u32(n, 1);
-    }
-    n
+// A stream after a piece, and the done cycles so far.
+#[derive(Clone, Copy)]
+pub struct Counted {
+    pub stream: Stream,
+    pub cycles: Cycles,
 }
 
 // One piece: the done cycles among the lines that end in it, besides those of the pieces before it. No log is written.
-pub fn count(
-    s: Stream,
-    memory: &mut [u32],
-    start: u32,
-    piece: &[u8],
-    writes: u32,
-    reads: u32,
-) -> Counted
-    ensures { counted_outcome result memory.new ≡ count_of (state_of s.controller) start memory.old (begun_of s) piece.now writes reads }
+pub fn count(s: Stream, memory: &mut [u32], start: u32, piece: &[u8], before: Cycles) -> Counted
+    ensures { counted_outcome result memory.new ≡ count_of (state_of s.controller) start memory.old (begun_of s) piece.now before.writes before.reads }
 {
     let mut words = bank::words_of(s.controller);
     let form = refusal::form(bank::bank_in(&words), start, memory.len());
-    let mut bytes = s.bytes;
-    let mut len = kept(s.len);
-    let mut w = writes;
-    let mut r = reads;
-    let mut i = 0;
-    while i < piece.len() {
-        let t = taken(piece, i, &mut bytes, len);
-        i = t.next;
-        len = t.len;
-        if t.ended {
-            let f = t.framed;
-            let a = answer_words(&mut words, memory, start, form, f);
-            w = counting(w, is_done_cycle(kinds::WRITE_CYCLE, f, a));
-            r = counting(r, is_done_cycle(kinds::READ_CYCLE, f, a));
-        }
+    let mut progress = Progress::begin(s);
+    let mut cycles = before;
+    while let Some(said) = progress.next_line(piece) {
+        let a = answer_words(&mut words, memory, start, form, said);
+        cycles = cycles.with_line(said, a);
     }
-    let controller = bank::controller_of(words);
-    let stream = Stream {
-        controller,
-        bytes,
-        len,
-    };
     Counted {
-        stream,
-        writes: w,
-        reads: r,
+        stream: progress.end(words),
+        cycles,
     }
 }
 
 // The end of the text ends a line that isn't empty, as an LF does; nothing is carried any more.
-pub fn count_end(s: Stream, memory: &mut [u32], start: u32, writes: u32, reads: u32) -> Counted
-    ensures { counted_outcome result memory.new ≡ end_count_of (state_of s.controller) start memory.old (begun_of s) writes reads }
+pub fn count_end(s: Stream, memory: &mut [u32], start: u32, before: Cycles) -> Counted
+    ensures { counted_outcome result memory.new ≡ end_count_of (state_of s.controller) start memory.old (begun_of s) before.writes before.reads }
 {
     if s.len == 0 {
         return Counted {
             stream: s,
-            writes,
-            reads,
+            cycles: before,
         };
     }
-    count(s, memory, start, b"\n", writes, reads)
+    count(s, memory, start, b"\n", before)
 }

@@ -6,3 +6,4 @@ pub mod ByFirst
 pub mod Choosing
 pub mod Joined
 pub mod AtOnce
+pub mod Heard

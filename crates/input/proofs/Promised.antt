@@ -13,9 +13,9 @@ use Rattle.logline.specs.Labels.{english_set}
 use Rattle.machine.specs.Codes.{unknown_label_set}
 use Rattle.logline.specs.LogLine.{refusing, refusal, line_room}
 use Rattle.logline.proofs.Labels.{line_fits}
-use Rattle.frame_log.specs.declared.Logged.{Logged}
-use Rattle.frame_log.specs.declared.Logged.TheVariants.{Written, NoRoom}
-use Rattle.frame_log.specs.Results.{is_short, with_log, begun_of, text_run, piece_of}
+use Rattle.std.proofs.Common.{Result, Ok}
+use Rattle.frame_log.specs.declared.NoRoom.{NoRoom}
+use Rattle.frame_log.specs.Results.{no_room, is_short, with_log, begun_of, text_run, piece_of}
 use Rattle.input.specs.declared.Reading.{Reading}
 use Rattle.input.specs.declared.Reading.TheVariants.{FirstLine, Frames, Over}
 use Rattle.input.specs.declared.SetLine.{SetLine}
@@ -42,17 +42,17 @@ module _ (i : Input) (start : ℕ) (memory out : List ℕ) where
 
     module _ (rest : List ℕ) (e : is_short (length piece + 1) out ≡ false) where
       pub fed-first : (line : SetLine) → passing i.reading piece ≡ record { reading = FirstLine line; rest = rest }
-          → record { reading = FirstLine line; state = st; memory = memory; begun = begun; out = out; log = Written 0 } ≡ fed_run
+          → record { reading = FirstLine line; state = st; memory = memory; begun = begun; out = out; log = Ok 0 } ≡ fed_run
       unfolding with_room as_it_is fed_input fed_past with_log
       fed-first line p = rw (p, e)
 
       pub fed-over : passing i.reading piece ≡ record { reading = Over; rest = rest } → (n : ℕ) (out' : List ℕ) → n ≡ length (refusal_after i.reading) → out' ≡ with_log (refusal_after i.reading) out
-          → record { reading = Over; state = st; memory = memory; begun = begun; out = out'; log = Written n } ≡ fed_run
+          → record { reading = Over; state = st; memory = memory; begun = begun; out = out'; log = Ok n } ≡ fed_run
       unfolding with_room as_it_is fed_input fed_past
       fed-over p n out' m w = rw (p, e, m, w)
 
       pub fed-frames : (set : ℕ) → passing i.reading piece ≡ record { reading = Frames set; rest = rest } → is_short (length rest) out ≡ false
-          → {state : State} {memory' begun' out' : List ℕ} {log : Logged}
+          → {state : State} {memory' begun' out' : List ℕ} {log : Result ℕ NoRoom}
           → record { state = state; memory = memory'; begun = begun'; out = out'; log = log } ≡ piece_of set st start memory begun rest out
           → record { reading = Frames set; state = state; memory = memory'; begun = begun'; out = out'; log = log } ≡ fed_run
       unfolding with_room as_it_is fed_input fed_past piece_of
@@ -65,27 +65,34 @@ module _ (i : Input) (start : ℕ) (memory out : List ℕ) where
   abbrev pub ended_run : Reading → InputRun
   ended_run r = with_room (lines_left r begun) (as_it_is i memory out) (ended_input r st start memory begun)
 
-  pub ended-over : record { reading = Over; state = st; memory = memory; begun = begun; out = out; log = Written 0 } ≡ ended_run Over
+  -- what is left, by how far the reading has come
+  pub at_reading : {r : Reading} {state : State} {memory' out' : List ℕ} {log : Result ℕ NoRoom} → i.reading ≡ r
+      → record { reading = r; state = state; memory = memory'; begun = begun; out = out'; log = log } ≡ ended_run r
+      → record { reading = i.reading; state = state; memory = memory'; begun = begun; out = out'; log = log } ≡ ended_run i.reading
+  at_reading {state = state} {memory' = memory'} {out' = out'} {log = log} g e =
+      ap (λ (q : Reading). record { reading = q; state = state; memory = memory'; begun = begun; out = out'; log = log }) g ∙ e ∙ ap ended_run (sym g)
+
+  pub ended-over : record { reading = Over; state = st; memory = memory; begun = begun; out = out; log = Ok 0 } ≡ ended_run Over
   unfolding with_room as_it_is lines_left ended_input with_log is_short
   ended-over = simp (le-ltb (length out) 0 zero-le)
 
   module _ (line : SetLine) where
     pub ended-short : is_short 1 out ≡ true → i.reading ≡ FirstLine line
-        → record { reading = FirstLine line; state = st; memory = memory; begun = begun; out = out; log = NoRoom } ≡ ended_run (FirstLine line)
+        → record { reading = FirstLine line; state = st; memory = memory; begun = begun; out = out; log = no_room } ≡ ended_run (FirstLine line)
     unfolding with_room as_it_is lines_left
     ended-short e r = rw (e, r)
 
     pub ended-known : is_short 1 out ≡ false → has_set line ≡ true
-        → record { reading = FirstLine line; state = st; memory = memory; begun = begun; out = out; log = Written 0 } ≡ ended_run (FirstLine line)
+        → record { reading = FirstLine line; state = st; memory = memory; begun = begun; out = out; log = Ok 0 } ≡ ended_run (FirstLine line)
     unfolding with_room as_it_is lines_left ended_input ended_first with_log
     ended-known e h = rw (e, h)
 
     pub ended-refused : is_short 1 out ≡ false → has_set line ≡ false → (n : ℕ) (out' : List ℕ) → n ≡ length refusal → out' ≡ with_log refusal out
-        → record { reading = Over; state = st; memory = memory; begun = begun; out = out'; log = Written n } ≡ ended_run (FirstLine line)
+        → record { reading = Over; state = st; memory = memory; begun = begun; out = out'; log = Ok n } ≡ ended_run (FirstLine line)
     unfolding with_room as_it_is lines_left ended_input ended_first
     ended-refused e h n out' m w = rw (e, h, m, w)
 
-  module _ (set : ℕ) (state : State) (memory' out' : List ℕ) (log : Logged) where
+  module _ (set : ℕ) (state : State) (memory' out' : List ℕ) (log : Result ℕ NoRoom) where
     abbrev Ran : Type 0
     Ran = record { state = state; memory = memory'; out = out'; log = log } ≡ text_run set st start memory begun out
 

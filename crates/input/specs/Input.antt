@@ -1,5 +1,5 @@
 -- What the log program reads (document 02, Ask 1): a first line with the number of a label set, then frames.
-use Rattle.std.specs.Prelude.{ℕ, ◌+◌, ◌*◌, List, [], ◌∷◌, Bool, true, false, cond, ◌&&◌, length, drop, ltb, eqb}
+use Rattle.std.specs.Prelude.{ℕ, Option, Some, None, ◌+◌, ◌*◌, List, [], ◌∷◌, Bool, true, false, cond, ◌&&◌, length, drop, ltb, eqb}
 use Rattle.machine.specs.State.{State}
 use Rattle.hex_digits.specs.Hex.{digit_number, all_digits, number}
 use Rattle.lines.specs.Lines.{lf, line_at, past_line}
@@ -7,8 +7,6 @@ use Rattle.logline.specs.Labels.{is_set}
 use Rattle.logline.specs.LogLine.{refusal}
 use Rattle.frame_log.specs.Log.{log_of, text_outcome, piece_outcome}
 use Rattle.frame_log.specs.Promises.{program_log}
-use Rattle.input.specs.declared.Chosen.{Chosen}
-use Rattle.input.specs.declared.Chosen.TheVariants.{Set, Unknown}
 use Rattle.input.specs.declared.Reading.{Reading}
 use Rattle.input.specs.declared.Reading.TheVariants.{FirstLine, Frames, Over}
 use Rattle.input.specs.declared.SetLine.{SetLine}
@@ -26,8 +24,8 @@ unfoldable pub input_log : List ℕ → List ℕ
 input_log input = let line = line_at input 0 in cond (is_set_line line) (program_log (number line) (drop (past_line input 0) input)) refusal
 
 -- the set that the first line of an input chooses
-unfoldable pub chosen_in : List ℕ → Chosen
-chosen_in input = let line = line_at input 0 in cond (is_set_line line) (Set (number line)) Unknown
+unfoldable pub chosen_in : List ℕ → Option ℕ
+chosen_in input = let line = line_at input 0 in cond (is_set_line line) (Some (number line)) None
 
 -- ---- the set line, byte by byte
 

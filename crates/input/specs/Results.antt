@@ -1,11 +1,10 @@
 -- What the functions that read an input promise, with room for the log and without.
-use Rattle.std.specs.Prelude.{ℕ, ◌+◌, ◌≤◌, ◌≡◌, List, true, cond, length, drop}
+use Rattle.std.specs.Prelude.{ℕ, Result, Ok, ◌+◌, ◌≤◌, ◌≡◌, List, true, cond, length, drop}
 use Rattle.machine.specs.State.{State}
 use Rattle.controller.specs.Controller.{state_of}
-use Rattle.frame_log.specs.declared.Logged.{Logged}
-use Rattle.frame_log.specs.declared.Logged.TheVariants.{Written, NoRoom}
+use Rattle.frame_log.specs.declared.NoRoom.{NoRoom}
 use Rattle.lines.specs.Lines.{lines}
-use Rattle.frame_log.specs.Results.{is_short, with_log, begun_of}
+use Rattle.frame_log.specs.Results.{no_room, is_short, with_log, begun_of}
 use Rattle.input.specs.declared.Reading.{Reading}
 use Rattle.input.specs.declared.Reading.TheVariants.{FirstLine, Frames, Over}
 use Rattle.input.specs.declared.Input.{Input}
@@ -30,18 +29,18 @@ pub record InputRun : Type 0 where
   pub memory : List ℕ
   pub begun : List ℕ
   pub out : List ℕ
-  pub log : Logged
+  pub log : Result ℕ NoRoom
 
 -- with 41 bytes for each of so many lines what is left is left; with fewer nothing is done, and no byte is written
 unfoldable pub with_room : ℕ → InputRun → InputOutcome → InputRun
 with_room most before l =
     cond (is_short most before.out)
     before
-    (record { reading = l.reading; state = l.state; memory = l.memory; begun = l.begun; out = with_log l.log before.out; log = Written (length l.log) })
+    (record { reading = l.reading; state = l.state; memory = l.memory; begun = l.begun; out = with_log l.log before.out; log = Ok (length l.log) })
 
 -- an input, and an output, as they are
 unfoldable pub as_it_is : Input → List ℕ → List ℕ → InputRun
-as_it_is i memory out = record { reading = i.reading; state = state_of i.stream.controller; memory = memory; begun = begun_of i.stream; out = out; log = NoRoom }
+as_it_is i memory out = record { reading = i.reading; state = state_of i.stream.controller; memory = memory; begun = begun_of i.stream; out = out; log = no_room }
 
 -- what `feed` and `finish` leave
 abbrev pub left_by : FeedResult → List ℕ → List ℕ → InputRun

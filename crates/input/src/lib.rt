@@ -13,11 +13,11 @@ ghost use Rattle.input.specs.Input.{refusal_after, chosen_in, has_set, heard};
 ghost use Rattle.input.specs.Results.{PassedBy, FeedPromised, FinishPromised};
 
 use controller::Controller;
-use frame_log::{Logged, Stream};
+use frame_log::{NoRoom, Stream};
 use logline::LINE_ROOM;
 
 // What has come of the set line: nothing, a digit, both of them.
-#[derive(Clone, Copy)]
+#[derive(Clone, Copy, Debug, PartialEq, Eq)]
 pub enum SetLine {
     Nothing,
     Digit(u8),
@@ -25,18 +25,11 @@ pub enum SetLine {
 }
 
 // How far the reading has come: in the first line; frames, under a set; over, since the set is unknown.
-#[derive(Clone, Copy)]
+#[derive(Clone, Copy, Debug, PartialEq, Eq)]
 pub enum Reading {
     FirstLine(SetLine),
     Frames(u32),
     Over,
-}
-
-// The set that a first line chooses.
-#[derive(Clone, Copy)]
-pub enum Chosen {
-    Set(u32),
-    Unknown,
 }
 
 #[derive(Clone, Copy)]
@@ -49,7 +42,7 @@ pub struct Input {
 #[derive(Clone, Copy)]
 pub struct FeedResult {
     pub input: Input,
-    pub log: Logged,
+    pub log: Result<usize, NoRoom>,
 }
 
 // An input at its end, and the log of its last line.
@@ -57,17 +50,16 @@ pub struct FeedResult {
 pub struct FinishResult {
     pub reading: Reading,
     pub controller: Controller,
-    pub log: Logged,
+    pub log: Result<usize, NoRoom>,
 }
 
 // An input that has not begun, on a controller from reset.
 pub fn start() -> Input
     ensures { (result.reading ≡ FirstLine Nothing) × (state_of result.stream.controller ≡ reset_state) × (begun_of result.stream ≡ []) }
 {
-    let stream = frame_log::start();
     Input {
         reading: Reading::FirstLine(SetLine::Nothing),
-        stream,
+        stream: frame_log::start(),
     }
 }
 
@@ -77,20 +69,20 @@ pub fn start() -> Input
 fn first_digit(b: u8) -> Reading
     ensures { result ≡ heard Nothing b }
 {
-    let high = hex_digits::digit_number(b);
-    if logline::is_set(16 * (high as u32)) {
-        return Reading::FirstLine(SetLine::Digit(high));
+    match hex_digits::digit_number(b) {
+        Some(high) if logline::is_set(16 * u32::from(high)) => {
+            Reading::FirstLine(SetLine::Digit(high))
+        }
+        _ => Reading::Over,
     }
-    Reading::Over
 }
 
 // The second digit: with the first it is a set's number, or the set is unknown.
 fn second_digit(high: u8, b: u8) -> Reading
     ensures { result ≡ heard (SetLine.Digit high) b }
 {
-    let low = hex_digits::digit_number(b);
-    if low < 16 {
-        let set = 16 * (high as u32) + low as u32;
+    if let Some(low) = hex_digits::digit_number(b) {
+        let set = 16 * u32::from(high) + u32::from(low);
         if logline::is_set(set) {
             return Reading::FirstLine(SetLine::Number(set));
         }
@@ -105,12 +97,8 @@ fn byte_heard(line: SetLine, b: u8) -> Reading
     match line {
         SetLine::Nothing => first_digit(b),
         SetLine::Digit(high) => second_digit(high, b),
-        SetLine::Number(set) => {
-            if b == b'\n' {
-                return Reading::Frames(set);
-            }
-            Reading::Over
-        }
+        SetLine::Number(set) if b == b'\n' => Reading::Frames(set),
+        SetLine::Number(_) => Reading::Over,
     }
 }
 
@@ -125,70 +113,43 @@ pub struct Passed {
 pub fn set_line_passed(reading: Reading, piece: &[u8]) -> Passed
     ensures { PassedBy reading piece.now result }
 {
-    let mut r = reading;
-    let mut at = 0;
-    while at < piece.len() {
-        match r {
-            Reading::FirstLine(line) => {
-                r = byte_heard(line, piece[at]);
-                at += 1;
-            }
-            Reading::Frames(set) => {
-                return Passed {
-                    reading: Reading::Frames(set),
-                    next: at,
-                };
-            }
-            Reading::Over => {
-                return Passed {
-                    reading: Reading::Over,
-                    next: at,
-                };
-            }
-        }
+    let mut reading = reading;
+    let mut next = 0;
+    while next < piece.len() {
+        let Reading::FirstLine(line) = reading else {
+            break;
+        };
+        reading = byte_heard(line, piece[next]);
+        next += 1;
     }
-    Passed {
-        reading: r,
-        next: at,
-    }
+    Passed { reading, next }
 }
 
 // The set that the first line of a whole input chooses, ended by LF or by the end of the input.
-pub fn set_of(input: &[u8]) -> Chosen
+pub fn set_of(input: &[u8]) -> Option<u32>
     ensures { result ≡ chosen_in input.now }
 {
-    let p = set_line_passed(Reading::FirstLine(SetLine::Nothing), input);
-    let reading = p.reading;
-    match reading {
+    match set_line_passed(Reading::FirstLine(SetLine::Nothing), input).reading {
         Reading::FirstLine(line) => match line {
-            SetLine::Nothing => Chosen::Unknown,
-            SetLine::Digit(high) => Chosen::Unknown,
-            SetLine::Number(set) => Chosen::Set(set),
+            SetLine::Number(set) => Some(set),
+            _ => None,
         },
-        Reading::Frames(set) => Chosen::Set(set),
-        Reading::Over => Chosen::Unknown,
+        Reading::Frames(set) => Some(set),
+        Reading::Over => None,
     }
 }
 
 // ---- a piece
 
-// Writes the line that refuses an unknown set, with its English label, and answers the place past it.
-fn put_refusal(out: &mut [u8]) -> usize
-    requires { line_room ≤ length out.old }
-    ensures { Wrote out.old 0 refusal result out.new }
-{
-    logline::put_unknown_set(out)
-}
-
-// The same, where the piece has ended a reading that had not ended before.
+// Where the piece has ended a reading that had not ended before, writes the line that refuses an unknown set, with its English label;
+// answers the place past it.
 fn put_refusal_after(out: &mut [u8], before: Reading) -> usize
     requires { line_room ≤ length out.old }
     ensures { Wrote out.old 0 (refusal_after before) result out.new }
 {
     match before {
-        Reading::FirstLine(line) => put_refusal(out),
-        Reading::Frames(set) => 0,
-        Reading::Over => 0,
+        Reading::FirstLine(_) => logline::put_unknown_set(out),
+        _ => 0,
     }
 }
 
@@ -200,46 +161,26 @@ pub fn feed(i: Input, memory: &mut [u32], start: u32, piece: &[u8], out: &mut [u
     if out.len() / LINE_ROOM <= piece.len() {
         return FeedResult {
             input: i,
-            log: Logged::NoRoom,
+            log: Err(NoRoom),
         };
     }
-    let before = i.reading;
-    let stream = i.stream;
-    let p = set_line_passed(before, piece);
-    let at = p.next;
-    let reading = p.reading;
-    match reading {
-        Reading::FirstLine(line) => {
-            let input = Input {
-                reading: Reading::FirstLine(line),
-                stream,
-            };
-            FeedResult {
-                input,
-                log: Logged::Written(0),
-            }
-        }
+    let passed = set_line_passed(i.reading, piece);
+    let mut stream = i.stream;
+    let log = match passed.reading {
+        Reading::FirstLine(_) => Ok(0),
         Reading::Frames(set) => {
-            let f = frame_log::feed(stream, memory, start, &piece[at..], out, set);
-            let left = f.stream;
-            let log = f.log;
-            let input = Input {
-                reading: Reading::Frames(set),
-                stream: left,
-            };
-            FeedResult { input, log }
+            let fed = frame_log::feed(stream, memory, start, &piece[passed.next..], out, set);
+            stream = fed.stream;
+            fed.log
         }
-        Reading::Over => {
-            let n = put_refusal_after(out, before);
-            let input = Input {
-                reading: Reading::Over,
-                stream,
-            };
-            FeedResult {
-                input,
-                log: Logged::Written(n),
-            }
-        }
+        Reading::Over => Ok(put_refusal_after(out, i.reading)),
+    };
+    FeedResult {
+        input: Input {
+            reading: passed.reading,
+            stream,
+        },
+        log,
     }
 }
 
@@ -249,11 +190,7 @@ pub fn feed(i: Input, memory: &mut [u32], start: u32, piece: &[u8], out: &mut [u
 pub fn has_set(line: SetLine) -> bool
     ensures { result ≡ has_set line }
 {
-    match line {
-        SetLine::Nothing => false,
-        SetLine::Digit(high) => false,
-        SetLine::Number(set) => true,
-    }
+    matches!(line, SetLine::Number(_))
 }
 
 // The end of the input: what it answers stands at the output's start. Where the output has not 41 bytes for each line that may
@@ -261,46 +198,25 @@ pub fn has_set(line: SetLine) -> bool
 pub fn finish(i: Input, memory: &mut [u32], start: u32, out: &mut [u8]) -> FinishResult
     ensures { FinishPromised i start memory.old out.old result memory.new out.new }
 {
-    let reading = i.reading;
-    let stream = i.stream;
-    let controller = stream.controller;
-    match reading {
-        Reading::FirstLine(line) => {
-            if out.len() < LINE_ROOM {
-                return FinishResult {
-                    reading: Reading::FirstLine(line),
-                    controller,
-                    log: Logged::NoRoom,
-                };
-            }
-            if has_set(line) {
-                return FinishResult {
-                    reading: Reading::FirstLine(line),
-                    controller,
-                    log: Logged::Written(0),
-                };
-            }
-            let n = put_refusal(out);
-            FinishResult {
-                reading: Reading::Over,
-                controller,
-                log: Logged::Written(n),
-            }
+    let mut reading = i.reading;
+    let mut controller = i.stream.controller;
+    let log = match reading {
+        Reading::FirstLine(_) if out.len() < LINE_ROOM => Err(NoRoom),
+        Reading::FirstLine(line) if has_set(line) => Ok(0),
+        Reading::FirstLine(_) => {
+            reading = Reading::Over;
+            Ok(logline::put_unknown_set(out))
         }
         Reading::Frames(set) => {
-            let r = frame_log::finish(stream, memory, start, out, set);
-            let left = r.controller;
-            let log = r.log;
-            FinishResult {
-                reading: Reading::Frames(set),
-                controller: left,
-                log,
-            }
+            let ran = frame_log::finish(i.stream, memory, start, out, set);
+            controller = ran.controller;
+            ran.log
         }
-        Reading::Over => FinishResult {
-            reading: Reading::Over,
-            controller,
-            log: Logged::Written(0),
-        },
+        Reading::Over => Ok(0),
+    };
+    FinishResult {
+        reading,
+        controller,
+        log,
     }
 }

@@ -10,8 +10,8 @@ use Rattle.promises.proofs.Answers.{in_list}
 use Rattle.promises.proofs.Fits.{fit_kept, given_fits}
 use Rattle.lines.specs.Lines.{lines}
 use Rattle.frame.specs.Frame.{frame_of, framed_outcome}
-use Rattle.frame.specs.declared.Framed.{Framed}
-use Rattle.frame.specs.declared.Framed.TheVariants.{Frame, NotAFrame}
+use Rattle.std.proofs.Common.{Option, Some, None}
+use Rattle.machine.specs.declared.Step.{Step}
 use Rattle.frame.proofs.Exactly.{frame_only}
 use Rattle.logline.proofs.Keys.{InDigits, digits_are_key}
 use Rattle.frame_log.specs.Log.{line_outcome, lines_outcome}
@@ -31,13 +31,13 @@ line_given : (start : ℕ) (line : List ℕ) (more : List (List ℕ)) → LinesG
 unfolding LinesGiven lines_outcome line_outcome framed_outcome
 line_given start line more rest st memory h m = by (frame_of line) refl
   where
-    by : (f : Framed) → frame_of line ≡ f
+    by : (f : Option Step) → frame_of line ≡ f
         → Given (framed_outcome f st start memory).answer × AllGiven (lines_outcome (framed_outcome f st start memory).state start (framed_outcome f st start memory).memory more).answers
-    by (Frame s) e =
+    by (Some s) e =
         let v = (frame_only line s e).1.value in
         let o = fit_kept st start memory s h m v in
         (to_step st start memory s h m v, rest (step_of st start memory s).state (step_of st start memory s).memory o.state o.memory)
-    by NotAFrame e = (to_no_frame st, rest st memory h m)
+    by None e = (to_no_frame st, rest st memory h m)
 
 lines_given : (start : ℕ) (ls : List (List ℕ)) → LinesGiven start ls
 unfolding LinesGiven lines_outcome

@@ -3,14 +3,14 @@
 // that they are fed in order, of `streams`; that they are fed at start 0 is read here and tested.
 #![tactic(auto)]
 
-ghost use Rattle.std.specs.Prelude.{◌≡◌};
-ghost use Rattle.tally.specs.declared.Total.{Total};
+ghost use Rattle.std.specs.Prelude.{◌≡◌, Option};
+ghost use Rattle.frame_log.specs.declared.Cycles.{Cycles};
 ghost use Rattle.tally.specs.Tally.{tally_of, fed_tally, ended_tally};
 
 use input::Reading;
 use std::process::ExitCode;
 use streams::{Program, Stop};
-use tally::{Tally, Total};
+use tally::Tally;
 
 // What has been counted, and the memory that the frames work on.
 #[derive(Drop)]
@@ -22,7 +22,7 @@ struct Count {
 impl Program for Count {
     ghost fed = { λ p piece q. tally_of q.tally q.memory ≡ fed_tally (tally_of p.tally p.memory) 0 piece };
 
-    ghost ended = { λ p q. (t : Total) × record { total = t; memory = q.memory } ≡ ended_tally (tally_of p.tally p.memory) 0 };
+    ghost ended = { λ p q. (t : Option Cycles) × record { total = t; memory = q.memory } ≡ ended_tally (tally_of p.tally p.memory) 0 };
 
     // Counts a piece; an unknown set is refused as soon as it is known.
     fn feed<R: Print + Eprint>(&mut self, rt: &R, piece: &[u8]) -> Result<(), Stop> {
@@ -36,8 +36,8 @@ impl Program for Count {
     // Writes the line of what the input comes to.
     fn finish<R: Print + Eprint>(&mut self, rt: &R) -> Result<(), Stop> {
         match tally::finish(self.tally, &mut self.memory, 0) {
-            Total::Cycles(writes, reads) => write(rt, &tally::line(writes, reads)),
-            Total::UnknownSet => refuse(rt),
+            Some(cycles) => write(rt, &tally::line(cycles)),
+            None => refuse(rt),
         }
     }
 }

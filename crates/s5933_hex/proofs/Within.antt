@@ -7,18 +7,17 @@ use native.Mathlib.Omega.{arith}
 use borrow.Author.Tests.{leb-true, le-leb}
 use lib.ListN.{length, length-append}
 use lib.Dec.{ltb, leb}
+use Rattle.std.specs.Prelude.{Result, Ok, Err}
+use Rattle.machine.specs.declared.codes.Refusal.{Refusal}
 use Rattle.machine.specs.Window.{is_window_out_of_form}
 use Rattle.lines.specs.Lines.{lines}
 use Rattle.controller.specs.declared.Controller.{Controller}
-use Rattle.frame_log.specs.declared.Logged.TheVariants.{NoRoom}
 use Rattle.frame_log.specs.declared.Stream.{Stream}
 use Rattle.frame_log.specs.declared.Streamed.{Streamed}
 use Rattle.frame_log.specs.declared.Ran.{Ran}
-use Rattle.frame_log.specs.Results.{TextRun, Piece, is_short, is_within, text_run, piece_of, RunPromised, FeedPromised}
+use Rattle.frame_log.specs.Results.{TextRun, Piece, no_room, is_short, is_within, text_run, piece_of, RunPromised, FeedPromised}
 use Rattle.frame_log.proofs.Within.{within}
 use Rattle.records.specs.Export.{export_of}
-use Rattle.hex_export.specs.declared.Exported.{Exported}
-use Rattle.hex_export.specs.declared.Exported.TheVariants.{Written, Refused}
 use Rattle.hex_export.specs.Results.{Export, exported_to}
 
 -- a test that holds of both cases holds of the one that is taken
@@ -28,7 +27,7 @@ either test false p q = q
 
 -- ---- a log
 
-none_within : (out : List ℕ) → is_within NoRoom out ≡ true
+none_within : (out : List ℕ) → is_within no_room out ≡ true
 unfolding is_within
 none_within out = refl
 
@@ -49,19 +48,19 @@ run_within {text = text} {out = out} p = ap run_is_within p.ran ∙ either run_i
 -- ---- an export
 
 -- a number of bytes that is answered is one that the output has
-abbrev exported_within : Exported → List ℕ → Bool
-exported_within (Written n) out = leb n (length out)
-exported_within (Refused code) out = true
+abbrev exported_within : Result ℕ Refusal → List ℕ → Bool
+exported_within (Ok n) out = leb n (length out)
+exported_within (Err r) out = true
 
 abbrev export_is_within : Export → Bool
 export_is_within q = exported_within q.answer q.out
 
 module _ (start : ℕ) (words out : List ℕ) where
-  export-by : (bad : Bool) → is_window_out_of_form start (length words) ≡ bad → (short : Bool) → ltb (length out) (length (export_of start words)) ≡ short → export_is_within (exported_to start words out) ≡ true
+  export_by : (bad : Bool) → is_window_out_of_form start (length words) ≡ bad → (short : Bool) → ltb (length out) (length (export_of start words)) ≡ short → export_is_within (exported_to start words out) ≡ true
   unfolding exported_to
-  export-by true e short f = rw e
-  export-by false e true f = rw (e, f)
-  export-by false e false f = rw (e, f) (le-leb (length (export_of start words)) _ (rw length-append (omega arith)))
+  export_by true e short f = rw e
+  export_by false e true f = rw (e, f)
+  export_by false e false f = rw (e, f) (le-leb (length (export_of start words)) _ (rw length-append (omega arith)))
 
-  pub export-within : {n : ℕ} {r : Exported} {out' : List ℕ} → record { answer = r; out = out' } ≡ exported_to start words out → r ≡ Written n → n ≤ length out'
-  export-within {n} {out' = out'} p q = leb-true n (length out') (rw q at (ap export_is_within p ∙ export-by _ refl _ refl))
+  pub export_within : {n : ℕ} {r : Result ℕ Refusal} {out' : List ℕ} → record { answer = r; out = out' } ≡ exported_to start words out → r ≡ Ok n → n ≤ length out'
+  export_within {n} {out' = out'} p q = leb-true n (length out') (rw q at (ap export_is_within p ∙ export_by _ refl _ refl))

@@ -8,10 +8,8 @@
 ghost use Rattle.std.specs.Prelude.{◌≡◌, true};
 ghost use Rattle.frame_log.specs.Results.{is_within};
 
-use frame_log::Logged;
-use hex_export::Exported;
-use input::Chosen;
-use machine::codes;
+use frame_log::NoRoom;
+use machine::Refusal;
 use std::io;
 use std::io::Read;
 use std::process::ExitCode;
@@ -35,12 +33,12 @@ fn misused<R: Eprint>(rt: &R, message: &str) -> Stop {
 }
 
 // The log that stands at the output's start.
-fn log_in(log: Logged, out: &[u8]) -> Result<&[u8], Stop>
+fn log_in(log: Result<usize, NoRoom>, out: &[u8]) -> Result<&[u8], Stop>
     requires { is_within log out.now ≡ true }
 {
     match log {
-        Logged::Written(n) => Ok(&out[..n]),
-        Logged::NoRoom => Err(Stop::Failed),
+        Ok(n) => Ok(&out[..n]),
+        Err(NoRoom) => Err(Stop::Failed),
     }
 }
 
@@ -65,8 +63,8 @@ struct Run {
 
 impl Run {
     // Writes the line that refuses a HEX text.
-    fn refuse<R: Print + Eprint>(&mut self, rt: &R, code: u32) -> Result<(), Stop> {
-        let n = logline::put_refusal(&mut self.out, code, self.set);
+    fn refuse<R: Print + Eprint>(&mut self, rt: &R, refusal: Refusal) -> Result<(), Stop> {
+        let n = logline::put_refusal(&mut self.out, u32::from(refusal), self.set);
         write(rt, &self.out[..n])?;
         Err(Stop::Refused)
     }
@@ -98,8 +96,8 @@ impl Run {
     fn export<R: Print + Eprint>(&mut self, rt: &R, frames: &[u8]) -> Result<(), Stop> {
         self.answer(frames, |_| Ok(()))?;
         match hex_export::export(&self.memory, 0, &mut self.out) {
-            Exported::Written(n) => write(rt, &self.out[..n]),
-            Exported::Refused(code) => self.refuse(rt, code),
+            Ok(n) => write(rt, &self.out[..n]),
+            Err(refusal) => self.refuse(rt, refusal),
         }
     }
 
@@ -113,10 +111,9 @@ impl Run {
         let Some((text, frames)) = rest.split_at_checked(n) else {
             return Err(misused(rt, "the HEX text is shorter than its length says"));
         };
-        let code = hex_load::load(&mut self.memory, 0, text);
-        if code != codes::DONE {
+        if let Err(refusal) = hex_load::load(&mut self.memory, 0, text) {
             tell_line(rt, self.memory.len(), text);
-            self.refuse(rt, code)?;
+            self.refuse(rt, refusal)?;
         }
         Ok(frames)
     }
@@ -160,14 +157,8 @@ enum Mode {
 
 // A length in eight digits.
 fn length_in(digits: &[u8]) -> Option<usize> {
-    let digits = <[u8; 8]>::try_from(digits).ok()?;
-    let [a, b, c, d, e, f, g, h] = digits;
-    let n = eight::number(a, b, c, d, e, f, g, h);
-    if n < eight::NONE {
-        Some(n as usize)
-    } else {
-        None
-    }
+    let n = eight::number(<[u8; 8]>::try_from(digits).ok()?)?;
+    Some(n as usize)
 }
 
 fn mode_in(line: &[u8]) -> Option<Mode> {
@@ -187,7 +178,7 @@ fn first_line(text: &[u8]) -> (&[u8], &[u8]) {
 
 // Answers a whole input.
 fn answer<R: Print + Eprint>(rt: &R, input: &[u8]) -> Result<(), Stop> {
-    let Chosen::Set(set) = input::set_of(input) else {
+    let Some(set) = input::set_of(input) else {
         return refuse_set(rt);
     };
     let mut run = Run {

@@ -9,7 +9,7 @@ ghost use Rattle.input.specs.declared.FeedResult.{FeedResult};
 ghost use Rattle.input.specs.declared.FinishResult.{FinishResult};
 ghost use Rattle.input.specs.Results.{FeedPromised, FinishPromised};
 
-use frame_log::Logged;
+use frame_log::NoRoom;
 use input::{Input, Reading};
 use std::process::ExitCode;
 use streams::{Program, Stop};
@@ -44,13 +44,17 @@ impl Program for Log {
 }
 
 // Writes the log that stands at the output's start.
-fn write<R: Print + Eprint>(rt: &R, log: Logged, out: &[u8]) -> Result<(), Stop>
+fn write<R: Print + Eprint>(
+    rt: &R,
+    log: Result<usize, NoRoom>,
+    out: &[u8],
+) -> Result<(), Stop>
     requires { is_within log out.now ≡ true }
 {
     match log {
-        Logged::Written(n) => streams::written(rt, "s5933_log: write", rt.write_all(&out[..n])),
-        Logged::NoRoom => {
-            let _ = rt.eprintln("s5933_log: no room for the log");
+        Ok(n) => streams::written(rt, "s5933_log: write", rt.write_all(&out[..n])),
+        Err(e) => {
+            let _ = rt.eprintln(format_args!("s5933_log: {e}"));
             Err(Stop::Failed)
         }
     }

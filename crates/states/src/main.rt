@@ -21,7 +21,8 @@ impl Numbers<'_> {
         self.0 = rest;
         let mut n: u32 = 0;
         for b in digits {
-            n = n % 0x1000_0000 * 16 + u32::from(hex_digits::digit_number(*b) % 16);
+            let digit = hex_digits::digit_number(*b).unwrap_or(0);
+            n = n.wrapping_mul(16).wrapping_add(u32::from(digit));
         }
         n
     }
@@ -98,7 +99,7 @@ fn changed(memory: &[u32], base: u32) -> Option<(u32, u32)> {
 
 fn write_numbers<R: Print>(rt: &R, numbers: &[u32]) {
     for n in numbers {
-        let _ = rt.write_all(&eight::digits(*n).to_le_bytes());
+        let _ = rt.write_all(&eight::digits(*n));
     }
 }
 

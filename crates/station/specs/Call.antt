@@ -1,9 +1,8 @@
 -- The C call (document 01, "Frames and the log"; document 02, Ask 1): what it returns and leaves in the output.
-use Rattle.std.specs.Prelude.{ℕ, ◌*◌, ◌≤◌, ◌<◌, ◌≡◌, List, [], ◌++◌, Bool, true, false, cond, ℤ, pos, negsuc, length, drop, ltb}
+use Rattle.std.specs.Prelude.{ℕ, Result, Ok, Err, ◌*◌, ◌≤◌, ◌<◌, ◌≡◌, List, [], ◌++◌, Bool, true, false, cond, ℤ, pos, negsuc, length, drop, ltb}
 use Rattle.machine.specs.State.{reset_state}
 use Rattle.machine.specs.Window.{zero_words}
-use Rattle.frame_log.specs.declared.Logged.{Logged}
-use Rattle.frame_log.specs.declared.Logged.TheVariants.{Written, NoRoom}
+use Rattle.frame_log.specs.declared.NoRoom.{NoRoom}
 use Rattle.lines.specs.Lines.{lines}
 use Rattle.logline.specs.Labels.{is_set}
 use Rattle.frame_log.specs.Results.{TextRun, text_run}
@@ -18,9 +17,9 @@ unfoldable pub is_too_long : List ℕ → Bool
 is_too_long input = ltb 1_048_576 (length input)
 
 -- the number of each case of the run's answer: the log's bytes, or -1, which is `negsuc 0`
-unfoldable pub number_of : Logged → ℤ
-number_of (Written n) = pos n
-number_of NoRoom = negsuc 0
+unfoldable pub number_of : Result ℕ NoRoom → ℤ
+number_of (Ok n) = pos n
+number_of (Err r) = negsuc 0
 
 -- -2, which is `negsuc 1`, comes first; then -3, which is `negsuc 2`, for a number that is no label set
 unfoldable pub result_of : ℕ → List ℕ → List ℕ → ℤ

@@ -5,7 +5,7 @@ ghost use Rattle.std.specs.Prelude.{◌≡◌};
 ghost use Rattle.station.specs.Call.{CallPromised};
 ghost use Rattle.station.specs.HexCalls.{Fits, exported_number, length_result, ExportPromised, LoadPromised};
 
-use frame_log::Logged;
+use frame_log::NoRoom;
 use machine::{codes, Refusal};
 
 // The longest input, in bytes.
@@ -27,10 +27,9 @@ pub extern "C" fn s5933_log(input: &[u8], output: &mut [u8], set: u32) -> i64
     let mut memory = [0u32; 4096];
     let c = controller::reset();
     let r = frame_log::run(c, &mut memory, 0, input, output, set);
-    let log = r.log;
-    match log {
-        Logged::Written(n) => n as i64,
-        Logged::NoRoom => -1,
+    match r.log {
+        Ok(n) => n as i64,
+        Err(NoRoom) => -1,
     }
 }
 

@@ -16,17 +16,17 @@ use Rattle.input.specs.declared.SetLine.TheVariants.{Nothing, Digit, Number}
 use Rattle.input.specs.Input.{has_set, heard, Passing, passing}
 use Rattle.input.proofs.Passing.{passing_none, passing_frames, passing_over, passing_append, passing_rest}
 use Rattle.input.proofs.ByFirst.{on_from, at_end, by_first_lem}
-use Rattle.tally.specs.declared.Total.{Total}
-use Rattle.tally.specs.declared.Total.TheVariants.{UnknownSet}
+use Rattle.std.proofs.Common.{Option, None}
+use Rattle.frame_log.specs.declared.Cycles.{Cycles}
 use Rattle.tally.specs.Tally.{total_of, cycles_in, total_in, TallyOutcome, count_past, fed_tally, ended_by, ended_tally, pieces_total, not_begun, TallyJoined}
 
 -- what an input comes to, by where the reading has come and the bytes past the set line, all at once
-abbrev final : CountOutcome → ℕ → Reading → List ℕ → Total
-final c start (FirstLine line) rest = cond (has_set line) (total_of c) UnknownSet
+abbrev final : CountOutcome → ℕ → Reading → List ℕ → Option Cycles
+final c start (FirstLine line) rest = cond (has_set line) (total_of c) None
 final c start (Frames set) rest = total_of (count_after (run c.state start c.memory (steps_in (lines_from c.begun rest))) [] c.writes c.reads)
-final c start Over rest = UnknownSet
+final c start Over rest = None
 
-abbrev final_of : CountOutcome → ℕ → Passing → Total
+abbrev final_of : CountOutcome → ℕ → Passing → Option Cycles
 final_of c start p = final c start p.reading p.rest
 
 abbrev at : Reading → CountOutcome → TallyOutcome
@@ -58,16 +58,16 @@ joined_at start (p ∷ more) r c =
 
 -- ---- by the first line
 
-abbrev whole : SetLine → List ℕ → Total
+abbrev whole : SetLine → List ℕ → Option Cycles
 whole line xs = final_of not_begun.count 0 (passing (FirstLine line) xs)
 
-whole_more : (line : SetLine) (x : ℕ) (xs : List ℕ) (r : Reading) → heard line x ≡ r → whole line (x ∷ xs) ≡ on_from whole (λ set. cycles_in) UnknownSet r xs
+whole_more : (line : SetLine) (x : ℕ) (xs : List ℕ) (r : Reading) → heard line x ≡ r → whole line (x ∷ xs) ≡ on_from whole (λ set. cycles_in) None r xs
 unfolding passing cycles_in
 whole_more line x xs (FirstLine next) e = ap (λ (r : Reading). final_of not_begun.count 0 (passing r xs)) e
 whole_more line x xs (Frames set) e = ap (λ (r : Reading). final_of not_begun.count 0 (passing r xs)) e ∙ ap (final_of not_begun.count 0) (passing_frames set xs)
 whole_more line x xs Over e = ap (λ (r : Reading). final_of not_begun.count 0 (passing r xs)) e ∙ ap (final_of not_begun.count 0) (passing_over xs)
 
-whole_end : (line : SetLine) → whole line [] ≡ at_end whole (λ set. cycles_in) UnknownSet line
+whole_end : (line : SetLine) → whole line [] ≡ at_end whole (λ set. cycles_in) None line
 unfolding passing has_set cycles_in lines_from steps_in cycles_of
 whole_end Nothing = refl
 whole_end (Digit high) = refl
@@ -75,4 +75,4 @@ whole_end (Number set) = refl
 
 pub tally_joined : TallyJoined
 unfolding total_in
-tally_joined pieces = joined_at 0 pieces (FirstLine Nothing) not_begun.count ∙ by_first_lem whole (λ set. cycles_in) UnknownSet whole_end whole_more (joined pieces)
+tally_joined pieces = joined_at 0 pieces (FirstLine Nothing) not_begun.count ∙ by_first_lem whole (λ set. cycles_in) None whole_end whole_more (joined pieces)

@@ -1,7 +1,7 @@
 -- Two results that meet one contract are the same.
-use Rattle.std.specs.Prelude.{ℕ, ◌≡◌, List}
+use Rattle.std.specs.Prelude.{ℕ, Option, ◌≡◌, List}
 use Rattle.tally.specs.declared.Tally.{Tally}
-use Rattle.tally.specs.declared.Total.{Total}
+use Rattle.frame_log.specs.declared.Cycles.{Cycles}
 use Rattle.tally.specs.Tally.{tally_of, fed_tally, ended_tally}
 
 -- `tally_feed_unique`: how far the reading has come, state (FIFOs by the words they hold), memory, the bytes carried on and the two numbers
@@ -14,6 +14,6 @@ TallyFeedUnique =
 -- `tally_finish_unique`: what the input comes to, to the letter, and the memory
 abbrev pub TallyFinishUnique : Type 0
 TallyFinishUnique =
-    (t : Tally) (start : ℕ) (memory : List ℕ) (r q : Total) (memory' memory'' : List ℕ)
+    (t : Tally) (start : ℕ) (memory : List ℕ) (r q : Option Cycles) (memory' memory'' : List ℕ)
     → record { total = r; memory = memory' } ≡ ended_tally (tally_of t memory) start → record { total = q; memory = memory'' } ≡ ended_tally (tally_of t memory) start
     → (r ≡ q) × (memory' ≡ memory'')

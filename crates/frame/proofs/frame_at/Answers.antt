@@ -1,28 +1,29 @@
-use mathlib.Core.Path.{◌∙◌}
-use native.Mathlib.Omega.{arith}
-use lib.ListN.{take, drop, length-drop}
-use lib.Seq.{get_or-drop, length-take-le}
-use Rattle.frame.proofs.Stands.{few-none, no-lf-none, lf-frame}
+use Rattle.std.proofs.Common.{◌≡◌, drop, sym, ◌∙◌, arith, length-drop, take_all, ltb-true}
+use Rattle.std.proofs.lemmas.Grind.{get_or_default_zero}
+use Rattle.frame.proofs.Stands.{few_none, no_lf_none, lf_frame}
 use Rattle.frame.proofs.frame_at.Goals as goal
 
-pub returns-then-text-at : goal.returns-then-text-at
-returns-then-text-at c =
+pub returns-in_err-rest : goal.returns-in_err-rest
+returns-in_err-rest c =
     let a = c.args in
-    few-none (drop a.at a.text.now) (omega (arith, length-drop a.at a.text.now, c.if-text-at.true))
+    rw c.from_residual.ensures (few_none (drop a.at a.text.now) (grind (arith, length-drop a.at a.text.now, c.in_err-rest.ensures.lookup)))
 
-pub returns-then-text-at-lt14 : goal.returns-then-text-at-lt14
-returns-then-text-at-lt14 c =
+pub returns-in_err-get : goal.returns-in_err-get
+returns-in_err-get c =
     let a = c.args in
-    few-none (drop a.at a.text.now) (omega (arith, length-drop a.at a.text.now, c.if-text-at-lt14.true))
+    let rest : c.in_ok-rest.rest.now ≡ drop a.at a.text.now = c.in_ok-rest.ensures.lookup.0.2 ∙ take_all _ _ (omega (arith, length-drop a.at a.text.now)) in
+    rw (c.from_residual-in_err-get.ensures, ← rest) (few_none c.in_ok-rest.rest.now (grind (arith, c.in_err-get.ensures.lookup.0)))
 
-pub returns-then-text-at-ne10 : goal.returns-then-text-at-ne10
-returns-then-text-at-ne10 c =
+pub returns-then-branch-ne10 : goal.returns-then-branch-ne10
+returns-then-branch-ne10 c =
     let a = c.args in
-    no-lf-none (drop a.at a.text.now) (rw (get_or-drop a.at a.text.now 13 0) c.if-text-at-ne10.true)
+    let rest : c.in_ok-rest.rest.now ≡ drop a.at a.text.now = c.in_ok-rest.ensures.lookup.0.2 ∙ take_all _ _ (omega (arith, length-drop a.at a.text.now)) in
+    let byte = c.in_ok-get.ensures.lookup.1 ∙ get_or_default_zero _ 13 _ (ltb-true _ _ (sym c.in_ok-get.ensures.lookup.0)) in
+    rw (← rest) (no_lf_none c.in_ok-rest.rest.now (λ e. c.if-branch-ne10.true (byte ∙ e)))
 
 pub returns : goal.returns
 returns c =
     let a = c.args in
-    let rest = drop a.at a.text.now in
-    c.in_parts.ensures (take 13 rest) (length-take-le 13 rest (omega (arith, c.if-text-at-lt14.false, length-drop a.at a.text.now))) c.number_at.ensures
-    ∙ lf-frame rest (rw (get_or-drop a.at a.text.now 13 0) c.if-text-at-ne10.false)
+    let rest : c.in_ok-rest.rest.now ≡ drop a.at a.text.now = c.in_ok-rest.ensures.lookup.0.2 ∙ take_all _ _ (omega (arith, length-drop a.at a.text.now)) in
+    let byte = c.in_ok-get.ensures.lookup.1 ∙ get_or_default_zero _ 13 _ (ltb-true _ _ (sym c.in_ok-get.ensures.lookup.0)) in
+    c.frame.ensures ∙ rw (← rest) (lf_frame c.in_ok-rest.rest.now (sym byte ∙ c.if-branch-ne10.false))

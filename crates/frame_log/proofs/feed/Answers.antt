@@ -19,7 +19,7 @@ unfolding piece_of
 returns c =
     let a = c.args in
     let enough = long (length a.piece.now) a.out.now c.if-out-piece.false in
-    let w = c.feed_bytes-f.ensures in
+    let w = c.feed_bytes-fed.ensures in
     let st = state_of a.s.controller in
     let f = piece_outcome st a.start a.memory.now (begun_of a.s) a.piece.now in
     let n = answers_few st a.start a.memory.now (begun_of a.s) a.piece.now in
@@ -28,7 +28,7 @@ returns c =
       refused = λ f. absurd (true≢false (sym f ∙ enough));
     }
 
-pub feed_bytes-f-requires : goal.feed_bytes-f-requires
-feed_bytes-f-requires c =
+pub feed_bytes-fed-requires : goal.feed_bytes-fed-requires
+feed_bytes-fed-requires c =
     let a = c.args in
     omega (arith, c.if-out-piece.false, answers_few (state_of a.s.controller) a.start a.memory.now (begun_of a.s) a.piece.now)

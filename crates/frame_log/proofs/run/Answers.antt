@@ -15,19 +15,19 @@ returns-then-out-n c =
     let few = short (length (lines a.text.now)) a.out.now (rw (← c.line_count-n.ensures) c.if-out-n.true) in
     record { ran = simp few; refused = λ e. refl }
 
-pub feed_bytes-f-requires : goal.feed_bytes-f-requires
-feed_bytes-f-requires c =
+pub feed_bytes-fed-requires : goal.feed_bytes-fed-requires
+feed_bytes-fed-requires c =
     let a = c.args in
     rw (c.not_begun.ensures.0, c.not_begun.ensures.1)
     (omega (arith, c.if-out-n.false, c.line_count-n.ensures, fed-answers (state_of a.c) a.start a.memory.now a.text.now))
 
-pub end_line-g-requires : goal.end_line-g-requires
-end_line-g-requires c =
+pub end_line-ended-requires : goal.end_line-ended-requires
+end_line-ended-requires c =
     let a = c.args in
-    let w = rw (c.not_begun.ensures.0, c.not_begun.ensures.1) at c.feed_bytes-f.ensures in
+    let w = rw (c.not_begun.ensures.0, c.not_begun.ensures.1) at c.feed_bytes-fed.ensures in
     let fed = piece_outcome (state_of a.c) a.start a.memory.now [] a.text.now in
     rw (w.state, w.memory, w.begun)
-    (omega (arith, c.if-out-n.false, c.line_count-n.ensures, fed-answers (state_of a.c) a.start a.memory.now a.text.now, w.log.next, log_length a.set fed.answers, c.feed_bytes-f.auto.out))
+    (omega (arith, c.if-out-n.false, c.line_count-n.ensures, fed-answers (state_of a.c) a.start a.memory.now a.text.now, w.log.next, log_length a.set fed.answers, c.feed_bytes-fed.auto.out))
 
 pub returns : goal.returns
 unfolding text_run
@@ -35,8 +35,8 @@ returns c =
     let a = c.args in
     let text = a.text.now in
     let enough = long (length (lines text)) a.out.now (rw (← c.line_count-n.ensures) c.if-out-n.false) in
-    let fed = rw (c.not_begun.ensures.0, c.not_begun.ensures.1) at c.feed_bytes-f.ensures in
-    let w = rw (← text-fed (state_of a.c) a.start a.memory.now text) at (then_ends a.set a.start fed c.end_line-g.ensures) in
+    let fed = rw (c.not_begun.ensures.0, c.not_begun.ensures.1) at c.feed_bytes-fed.ensures in
+    let w = rw (← text-fed (state_of a.c) a.start a.memory.now text) at (then_ends a.set a.start fed c.end_line-ended.ensures) in
     let t = text_outcome (state_of a.c) a.start a.memory.now text in
     let m = told_length (state_of a.c) a.start a.memory.now (lines text) in
     record {

@@ -1,15 +1,11 @@
-use mathlib.Core.Path.{sym, ap}
+use Rattle.std.proofs.Common.{sym, ap}
 use Rattle.input.specs.Input.{has_set}
+use Rattle.input.proofs.Heard.{no_number}
 use Rattle.input.proofs.has_set.Goals as goal
-
-pub returns-in-Nothing : goal.returns-in-Nothing
-unfolding has_set
-returns-in-Nothing c = ap has_set (sym c.in-Nothing.is)
-
-pub returns-in-Digit : goal.returns-in-Digit
-unfolding has_set
-returns-in-Digit c = ap has_set (sym c.in-Digit.is)
 
 pub returns-in-Number : goal.returns-in-Number
 unfolding has_set
 returns-in-Number c = ap has_set (sym c.in-Number.is)
+
+pub returns-in_default : goal.returns-in_default
+returns-in_default c = no_number c.args.line c.in_default.not-Number

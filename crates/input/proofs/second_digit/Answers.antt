@@ -1,17 +1,16 @@
-use borrow.Author.Tests.{lt-ltb, le-ltb}
-use Rattle.input.specs.Input.{heard}
+use Rattle.std.proofs.Common.{sym, ◌∙◌}
+use Rattle.input.proofs.Heard.{second_some, second_none}
 use Rattle.input.proofs.second_digit.Goals as goal
 
 pub returns-then-is_set : goal.returns-then-is_set
-unfolding heard
 returns-then-is_set c =
-    simp (← c.digit_number-low.ensures, lt-ltb _ _ c.if-low-lt16.true, ← c.is_set.ensures, c.if-is_set.true)
+    let known = rw (c.from.ensures, c.from-in-Some.ensures) at (sym c.is_set.ensures ∙ c.if-is_set.true) in
+    rw (c.from.ensures, c.from-in-Some.ensures) (second_some c.args.b c.args.high _ _ (sym c.digit_number.ensures ∙ c.in-Some.is) known)
 
 pub returns-else-is_set : goal.returns-else-is_set
-unfolding heard
 returns-else-is_set c =
-    simp (← c.digit_number-low.ensures, lt-ltb _ _ c.if-low-lt16.true, ← c.is_set.ensures, c.if-is_set.false)
+    let known = rw (c.from.ensures, c.from-in-Some.ensures) at (sym c.is_set.ensures ∙ c.if-is_set.false) in
+    second_some c.args.b c.args.high _ _ (sym c.digit_number.ensures ∙ c.in-Some.is) known
 
-pub returns-else-low-lt16 : goal.returns-else-low-lt16
-unfolding heard
-returns-else-low-lt16 c = simp (← c.digit_number-low.ensures, le-ltb _ _ c.if-low-lt16.false)
+pub returns-in_default : goal.returns-in_default
+returns-in_default c = second_none c.args.b c.args.high (sym c.digit_number.ensures ∙ c.in_default.is)

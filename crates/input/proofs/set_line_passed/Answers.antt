@@ -1,34 +1,26 @@
-use mathlib.Core.Path.{refl, sym, ap, ◌∙◌}
-use Prim.Native.Nat.{◌+◌}
-use native.Mathlib.Omega.{arith}
-use lib.ListN.{drop, drop_of_length-le}
+use Rattle.std.proofs.Common.{◌+◌, drop, sym, ap, ◌∙◌, arith, drop_of_length-le}
 use Rattle.input.specs.declared.Reading.{Reading}
 use Rattle.input.specs.Input.{passing}
-use Rattle.input.proofs.Passing.{passing_none, passing_frames, passing_over, passing_turn}
+use Rattle.input.proofs.Passing.{passing_none, passing_turn}
+use Rattle.input.proofs.Heard.{passing_stop}
 use Rattle.input.proofs.set_line_passed.Goals as goal
 
-pub loop-at-init : goal.loop-at-init
-loop-at-init c = (omega arith, refl)
-
-pub loop-at-preserved : goal.loop-at-preserved
-loop-at-preserved c =
-    let piece = c.args.piece.now in (
+pub loop-next-preserved : goal.loop-next-preserved
+loop-next-preserved c =
+    let piece = c.args.piece.now in
+    let l = c.loop-next in (
       omega arith,
-      c.loop-at.invariant.1 ∙ ap (λ (q : Reading). passing q (drop c.loop-at.at piece)) c.in-FirstLine.is ∙ passing_turn _ piece c.loop-at.at c.loop-at-test.true
-          ∙ ap (λ (q : Reading). passing q (drop (c.loop-at.at + 1) piece)) (sym c.byte_heard-r.ensures),
+      l.invariant.1 ∙ ap (λ (q : Reading). passing q (drop l.next piece)) c.in-FirstLine.is ∙ passing_turn _ piece l.next c.loop-next-test.true
+          ∙ ap (λ (q : Reading). passing q (drop (l.next + 1) piece)) (sym c.byte_heard-reading.ensures),
     )
 
-pub returns-in-Frames : goal.returns-in-Frames
-returns-in-Frames c =
-    let piece = c.args.piece.now in
-    record { within = c.loop-at.invariant.0; passes = c.loop-at.invariant.1 ∙ ap (λ (q : Reading). passing q (drop c.loop-at.at piece)) c.in-Frames.is ∙ passing_frames _ (drop c.loop-at.at piece) }
+pub returns-in_default : goal.returns-in_default
+returns-in_default c =
+    let l = c.loop-next in
+    record { within = l.invariant.0; passes = l.invariant.1 ∙ passing_stop l.reading (drop l.next c.args.piece.now) c.in_default.not-FirstLine }
 
-pub returns-in-Over : goal.returns-in-Over
-returns-in-Over c =
+pub returns-after-loop-next : goal.returns-after-loop-next
+returns-after-loop-next c =
     let piece = c.args.piece.now in
-    record { within = c.loop-at.invariant.0; passes = c.loop-at.invariant.1 ∙ ap (λ (q : Reading). passing q (drop c.loop-at.at piece)) c.in-Over.is ∙ passing_over (drop c.loop-at.at piece) }
-
-pub returns : goal.returns
-returns c =
-    let piece = c.args.piece.now in
-    record { within = c.loop-at.invariant.0; passes = c.loop-at.invariant.1 ∙ rw (drop_of_length-le piece {i = c.loop-at.at} c.loop-at-test.false) (passing_none c.loop-at.r) }
+    let l = c.loop-next in
+    record { within = l.invariant.0; passes = l.invariant.1 ∙ rw (drop_of_length-le piece {i = l.next} c.loop-next-test.false) (passing_none l.reading) }

@@ -8,4 +8,4 @@ use Rattle.s5933_hex.proofs.log_in.Goals as goal
 pub slice_bounds-result-end : goal.slice_bounds-result-end
 unfolding is_within
 slice_bounds-result-end c =
-    sym (length-take-le c.in-Written.n c.args.out.now (leb-true c.in-Written.n (length c.args.out.now) (rw c.in-Written.is at c.requires)))
+    sym (length-take-le c.in-Ok.n c.args.out.now (leb-true c.in-Ok.n (length c.args.out.now) (rw c.in-Ok.is at c.requires)))
