@@ -1,41 +1,39 @@
 // The C call for one step on a controller that stands as words in its caller's memory: what a driver calls for each access.
 #![tactic(auto)]
 
-ghost use Rattle.std.specs.Prelude.{◌≡◌, length};
+ghost use Rattle.std.specs.Prelude.{◌≡◌};
+ghost use Rattle.machine.specs.Refusals.{code_number};
 ghost use Rattle.driver.specs.Call.{form_of_words, words_of_answer, StepPromised};
 
-use machine::{Answer, Step, codes};
+use bank::Places;
+use machine::{Addon, Answer, Pci, Refusal, Step, codes};
 
-// The words of an answer.
-const ANSWER_WORDS: usize = 7;
-
-// Codes 1 and 2, or done. Words that stand for no controller are a state out of form: there are 38, and either right is 0 or 1.
-fn form_in(words: &[u32], start: u32, count: usize) -> u32
-    ensures { result ≡ form_of_words words.now start count }
+// Codes 1 and 2. Words that stand for no controller are a state out of form: there are 38, and either right is 0 or 1.
+fn form_in(words: &[u32], start: u32, count: usize) -> Result<(), Refusal>
+    ensures { code_number result ≡ form_of_words words.now start count }
 {
     if words.len() != bank::WORDS {
-        return codes::STATE_OUT_OF_FORM;
+        return Err(Refusal::StateOutOfForm);
     }
-    if !((words[bank::PCI_RIGHT] < 2) & (words[bank::ADDON_RIGHT] < 2)) {
-        return codes::STATE_OUT_OF_FORM;
+    if !((words[Pci::RIGHT_AT] < 2) & (words[Addon::RIGHT_AT] < 2)) {
+        return Err(Refusal::StateOutOfForm);
     }
-    let b = bank::bank_in(words);
-    refusal::form(b, start, count)
+    refusal::form(bank::bank_in(words), start, count)
 }
 
-fn put_answer(words: &mut [u32], a: Answer)
-    requires { length words.old ≡ 7 }
-    ensures { words.new ≡ words_of_answer a }
+// The words of an answer.
+fn words_of(a: Answer) -> [u32; 7]
+    ensures { result ≡ words_of_answer a }
 {
-    let line = bank::one_if(a.line);
-    let addon_line = bank::one_if(a.addon_line);
-    words[0] = a.code;
-    words[1] = a.address;
-    words[2] = a.value;
-    words[3] = a.enables;
-    words[4] = line;
-    words[5] = addon_line;
-    words[6] = a.changed;
+    [
+        a.code,
+        a.address,
+        a.value,
+        a.enables,
+        u32::from(a.line),
+        u32::from(a.addon_line),
+        a.changed,
+    ]
 }
 
 // One step on a controller that stands as words in the caller's memory, over a window of so many words from a start on. It returns the code, and the answer
@@ -54,10 +52,10 @@ pub extern "C" fn s5933_step(
 ) -> i64
     ensures { StepPromised controller.old start memory.old (record { kind = kind; offset = offset; enables = enables; value = value }) answer.old result controller.new memory.new answer.new }
 {
-    if answer.len() != ANSWER_WORDS {
+    let Some(answer) = answer.as_mut_array::<7>() else {
         return -1;
-    }
-    let form = form_in(controller, start, memory.len());
+    };
+    let form = codes::code(form_in(controller, start, memory.len()));
     answer[0] = form;
     let s = Step {
         kind,
@@ -66,6 +64,6 @@ pub extern "C" fn s5933_step(
         value,
     };
     let a = step::in_words(controller, memory, start, form, s);
-    put_answer(answer, a);
-    a.code as i64
+    *answer = words_of(a);
+    i64::from(a.code)
 }

@@ -232,9 +232,9 @@ pub all_255 : (x : ℕ) → x < 256 → bit_and x 255 ≡ x
 all_255 x h = let m : bit_and x 255 ≡ x % 256 = and_mask x 8 in omega arith
 
 module _ (n0 n1 n2 n3 n4 n5 n6 n7 d : ℕ) (e : Each 16 (n0 ∷ n1 ∷ n2 ∷ n3 ∷ n4 ∷ n5 ∷ n6 ∷ n7 ∷ [])) (q : d ≡ packed (n0 ∷ n1 ∷ n2 ∷ n3 ∷ n4 ∷ n5 ∷ n6 ∷ n7 ∷ [])) where
-  pub two-joined : bit_and (d * 0x10 + d / 0x100) 0x00FF_00FF_00FF_00FF
+  pub two_joined : bit_and (d * 0x10 + d / 0x100) 0x00FF_00FF_00FF_00FF
       ≡ packed ((n0 * 16 + n1) ∷ 0 ∷ (n2 * 16 + n3) ∷ 0 ∷ (n4 * 16 + n5) ∷ 0 ∷ (n6 * 16 + n7) ∷ 0 ∷ [])
-  two-joined =
+  two_joined =
       let sum : d * 0x10 + d / 0x100 ≡ packed ((n0 * 16 + n1) ∷ (n1 * 16 + n2) ∷ (n2 * 16 + n3) ∷ (n3 * 16 + n4) ∷ (n4 * 16 + n5) ∷ (n5 * 16 + n6) ∷ (n6 * 16 + n7) ∷ (n7 * 16) ∷ []) = omega arith in
       rw sum
       (and_lists ((n0 * 16 + n1) ∷ (n1 * 16 + n2) ∷ (n2 * 16 + n3) ∷ (n3 * 16 + n4) ∷ (n4 * 16 + n5) ∷ (n5 * 16 + n6) ∷ (n6 * 16 + n7) ∷ (n7 * 16) ∷ []) (255 ∷ 0 ∷ 255 ∷ 0 ∷ 255 ∷ 0 ∷ 255 ∷ 0 ∷ [])
@@ -242,10 +242,10 @@ module _ (n0 n1 n2 n3 n4 n5 n6 n7 d : ℕ) (e : Each 16 (n0 ∷ n1 ∷ n2 ∷ n3
       (omega arith, (omega arith, (omega arith, (omega arith, (omega arith, (omega arith, (omega arith, (omega arith, tt))))))))
       ∙ rw (all_255 (n0 * 16 + n1) (omega arith), all_255 (n2 * 16 + n3) (omega arith), all_255 (n4 * 16 + n5) (omega arith), all_255 (n6 * 16 + n7) (omega arith), and_zero_r (n1 * 16 + n2), and_zero_r (n3 * 16 + n4), and_zero_r (n5 * 16 + n6), and_zero_r (n7 * 16)))
 
-  pub four-joined : bit_and (bit_and (d * 0x10 + d / 0x100) 0x00FF_00FF_00FF_00FF * 0x100 + bit_and (d * 0x10 + d / 0x100) 0x00FF_00FF_00FF_00FF / 0x1_0000) 0x0000_FFFF_0000_FFFF
+  pub four_joined : bit_and (bit_and (d * 0x10 + d / 0x100) 0x00FF_00FF_00FF_00FF * 0x100 + bit_and (d * 0x10 + d / 0x100) 0x00FF_00FF_00FF_00FF / 0x1_0000) 0x0000_FFFF_0000_FFFF
       ≡ packed ((n2 * 16 + n3) ∷ (n0 * 16 + n1) ∷ 0 ∷ 0 ∷ (n6 * 16 + n7) ∷ (n4 * 16 + n5) ∷ 0 ∷ 0 ∷ [])
-  four-joined =
-      let two = two-joined in
+  four_joined =
+      let two = two_joined in
       let sum : bit_and (d * 0x10 + d / 0x100) 0x00FF_00FF_00FF_00FF * 0x100 + bit_and (d * 0x10 + d / 0x100) 0x00FF_00FF_00FF_00FF / 0x1_0000
       ≡ packed ((n2 * 16 + n3) ∷ (n0 * 16 + n1) ∷ (n4 * 16 + n5) ∷ (n2 * 16 + n3) ∷ (n6 * 16 + n7) ∷ (n4 * 16 + n5) ∷ 0 ∷ (n6 * 16 + n7) ∷ []) = rw two (omega arith) in
       rw sum
@@ -297,7 +297,7 @@ pub joined_is : (ns : List ℕ) (d : ℕ) → length ns ≡ 8 → Each 16 ns →
 joined_is ns d n e q =
     let at = λ (i : ℕ). get_or ns i 0 in
     let each = subst (Each 16) (sym (spelt ns n)) e in
-    rw (four-joined (at 0) (at 1) (at 2) (at 3) (at 4) (at 5) (at 6) (at 7) d each (q ∙ sym (ap packed (spelt ns n))))
+    rw (four_joined (at 0) (at 1) (at 2) (at 3) (at 4) (at 5) (at 6) (at 7) d each (q ∙ sym (ap packed (spelt ns n))))
     (last_joined (at 0 * 16 + at 1) (at 2 * 16 + at 3) (at 4 * 16 + at 5) (at 6 * 16 + at 7) (small (at 0) (at 1) each.0 each.1.0) (small (at 2) (at 3) each.1.1.0 each.1.1.1.0)
     ∙ in_order (at 0) (at 1) (at 2) (at 3) (at 4) (at 5) (at 6) (at 7) ∙ ap (joined_from 0) (spelt ns n))
 

@@ -2,7 +2,7 @@
 --     carry, digits_by               what `texts_at` adds to numbers in bytes makes each of them its digit
 --     text_bytes_small               those digits are bytes
 --     eight_are                      the same of eight
---     bytes-picked, numbers-picked   the bytes of a number and their digits, by what is joined and masked
+--     bytes_picked, numbers_picked   the bytes of a number and their digits, by what is joined and masked
 --     eight_at                       the eight digits of a number
 use Prim.Native.Nat.{ℕ, zero, suc, ◌+◌, ◌*◌, ◌/◌, ◌%◌, ◌^◌, ◌<◌}
 use mathlib.Core.Path.{◌≡◌, refl, ◌∙◌}
@@ -96,9 +96,9 @@ halves_apart w h =
 
 module _ (a b c d : ℕ) (e : Each 256 (a ∷ b ∷ c ∷ d ∷ [])) where
   -- halves that have changed places, then bytes
-  pub bytes-picked : (u : ℕ) → u ≡ c * 0x100_0000_0000 + d * 0x1_0000_0000 + a * 0x100 + b
+  pub bytes_picked : (u : ℕ) → u ≡ c * 0x100_0000_0000 + d * 0x1_0000_0000 + a * 0x100 + b
       → bit_and (bit_or (u / 0x100) (u * 0x1_0000 % 0x1_0000_0000_0000_0000)) 0x00FF_00FF_00FF_00FF ≡ packed (a ∷ 0 ∷ b ∷ 0 ∷ c ∷ 0 ∷ d ∷ 0 ∷ [])
-  bytes-picked u q =
+  bytes_picked u q =
       let down : u / 0x100 ≡ packed (a ∷ 0 ∷ 0 ∷ d ∷ c ∷ 0 ∷ 0 ∷ 0 ∷ []) = omega arith in
       let up : u * 0x1_0000 % 0x1_0000_0000_0000_0000 ≡ packed (0 ∷ 0 ∷ b ∷ a ∷ 0 ∷ 0 ∷ d ∷ c ∷ []) = omega arith in
       rw (down, up)
@@ -108,14 +108,14 @@ module _ (a b c d : ℕ) (e : Each 256 (a ∷ b ∷ c ∷ d ∷ [])) where
       (omega arith, (omega arith, (omega arith, (omega arith, (omega arith, (omega arith, (omega arith, (omega arith, tt))))))))
       ∙ rw (or_zero_r a, or_zero_r c, and_zero_r (bit_or d a), and_zero_r c, all_255 a e.0, all_255 b e.1.0, all_255 c e.1.1.0, all_255 d e.1.1.1.0))
 
-  pub apart-small : packed (a ∷ 0 ∷ b ∷ 0 ∷ c ∷ 0 ∷ d ∷ 0 ∷ []) < 0x100_0000_0000_0000
-  apart-small = omega arith
+  pub apart_small : packed (a ∷ 0 ∷ b ∷ 0 ∷ c ∷ 0 ∷ d ∷ 0 ∷ []) < 0x100_0000_0000_0000
+  apart_small = omega arith
 
   -- of a byte its two digits
-  pub numbers-picked : (z : ℕ) → z ≡ packed (a ∷ 0 ∷ b ∷ 0 ∷ c ∷ 0 ∷ d ∷ 0 ∷ [])
+  pub numbers_picked : (z : ℕ) → z ≡ packed (a ∷ 0 ∷ b ∷ 0 ∷ c ∷ 0 ∷ d ∷ 0 ∷ [])
       → bit_and (bit_or (z / 16) (z * 0x100 % 0x1_0000_0000_0000_0000)) 0x0F0F_0F0F_0F0F_0F0F ≡ lowest_in (a / 16 ∷ a ∷ b / 16 ∷ b ∷ c / 16 ∷ c ∷ d / 16 ∷ d ∷ [])
   unfolding lowest_in
-  numbers-picked z q =
+  numbers_picked z q =
       let down : z / 16 ≡ packed (a / 16 ∷ b % 16 * 16 ∷ b / 16 ∷ c % 16 * 16 ∷ c / 16 ∷ d % 16 * 16 ∷ d / 16 ∷ 0 ∷ []) = omega arith in
       let up : z * 0x100 % 0x1_0000_0000_0000_0000 ≡ packed (0 ∷ a ∷ 0 ∷ b ∷ 0 ∷ c ∷ 0 ∷ d ∷ []) = omega arith in
       rw (down, up)
@@ -129,9 +129,9 @@ module _ (x : ℕ) where
   abbrev parts : List ℕ
   parts = x / 0x100_0000 / 16 ∷ x / 0x100_0000 ∷ x / 0x1_0000 % 256 / 16 ∷ x / 0x1_0000 % 256 ∷ x / 0x100 % 256 / 16 ∷ x / 0x100 % 256 ∷ x % 256 / 16 ∷ x % 256 ∷ []
 
-  parts-texts : text_bytes parts ≡ digits 8 x
+  parts_texts : text_bytes parts ≡ digits 8 x
   unfolding digits
-  parts-texts =
+  parts_texts =
       let p7 : x / 0x100_0000 / 16 % 16 ≡ x / 16 / 16 / 16 / 16 / 16 / 16 / 16 % 16 = omega arith in
       let p6 : x / 0x100_0000 % 16 ≡ x / 16 / 16 / 16 / 16 / 16 / 16 % 16 = omega arith in
       let p5 : x / 0x1_0000 % 256 / 16 % 16 ≡ x / 16 / 16 / 16 / 16 / 16 % 16 = omega arith in
@@ -145,4 +145,4 @@ module _ (x : ℕ) where
   pub eight_at : (n : ℕ) → n ≡ lowest_in parts → to_le_bytes w64 (texts_at n) ≡ digits 8 x
   eight_at n e =
       let is : texts_at n ≡ from_le_bytes w64 (text_bytes parts) = rw (e, eight_are) (omega arith) in
-      le_bytes_8 (text_bytes parts) (texts_at n) refl (text_bytes_small parts) is ∙ parts-texts
+      le_bytes_8 (text_bytes parts) (texts_at n) refl (text_bytes_small parts) is ∙ parts_texts

@@ -56,13 +56,12 @@ pub fn is_out_of_form(fill: WordFill) -> bool
 pub fn has_amount<S: Side>(fill: WordFill, four: bool) -> bool
     ensures { (words : List ℕ) → length words ≡ fill.0 → result ≡ leb (cond four 4 1) (amount S.side words) }
 {
-    let amount = if S::COUNTS_ROOM {
-        DEPTH.saturating_sub(fill.0)
-    } else {
-        fill.0
-    };
     let needed = if four { FOUR } else { 1 };
-    needed <= amount
+    if S::COUNTS_ROOM {
+        fill.0 <= DEPTH - needed
+    } else {
+        needed <= fill.0
+    }
 }
 
 // The fill when a word has come in, if there was room.

@@ -78,23 +78,23 @@ all_as_labelled : ℕ → Bool
 all_as_labelled set = below (as_labelled set) 25
 
 module _ (set code : ℕ) (s : is_set set ≡ true) where
-  as-labelled : code < 25 → as_labelled set code ≡ true
+  labelled_below : code < 25 → as_labelled set code ≡ true
   unfolding label_sets english german is_set label_in label_of as_labelled all_as_labelled
-  as-labelled h = below_at (as_labelled set) 25 code (below_at all_as_labelled (length label_sets) set refl (ltb-true set (length label_sets) s)) h
+  labelled_below h = below_at (as_labelled set) 25 code (below_at all_as_labelled (length label_sets) set refl (ltb-true set (length label_sets) s)) h
 
   same_by : (l t : Bool) → cond l t (not t) ≡ true → t ≡ l
   same_by true t e = e
   same_by false t e = not-true t e
 
-  there-by : (b : Bool) → ltb code 25 ≡ b → ltb 0 (length (label_of set code)) ≡ is_labelled code
+  there_by : (b : Bool) → ltb code 25 ≡ b → ltb 0 (length (label_of set code)) ≡ is_labelled code
   unfolding as_labelled
-  there-by true e = same_by (is_labelled code) (ltb 0 (length (label_of set code))) (as-labelled (ltb-true code 25 e))
-  there-by false e =
+  there_by true e = same_by (is_labelled code) (ltb 0 (length (label_of set code))) (labelled_below (ltb-true code 25 e))
+  there_by false e =
       let h = ltb-false code 25 e in
       simp (past_24 set code h, le-ltb code 20 (omega arith), ne_eqb code 24 (λ q. omega arith))
 
 pub labels_there : LabelsThere
-labels_there set code s = there-by set code s (ltb code 25) refl
+labels_there set code s = there_by set code s (ltb code 25) refl
 
 -- none of a number that is no set
 pub no_set : (set code : ℕ) → 2 ≤ set → label_of set code ≡ []

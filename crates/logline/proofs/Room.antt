@@ -25,14 +25,6 @@ module _ (set : ℕ) (out : List ℕ) (at : ℕ) (a : Answer) where
   unfolding line_in
   no_room_lem h = simp (lt-leb _ _ h)
 
-  fits_by : (t : Bool) → length (cond t (log_line set a) []) ≤ line_room
-  fits_by true = omega (arith, line_fits set a)
-  fits_by false = zero-le
-
-  pub line-in-fits : length (line_in set out at a) ≤ line_room
-  unfolding line_in
-  line-in-fits = fits_by (leb (at + line_room) (length out))
-
 -- what was written of a line is within the output
 module _ (set : ℕ) (out : List ℕ) (a : Answer) where
   within_by : (t : Bool) → leb line_room (length out) ≡ t → length (cond t (log_line set a) []) ≤ length out

@@ -21,6 +21,7 @@ use machine::{ALL_ENABLES, Addon, Pci, Refusal, Side, Step, WORD_BYTES, offsets}
 // ---- of the form
 
 // Whether the right of a side's lane stands together with an end of it. Mostly none stands, and no end is looked at.
+#[tactic(auto, using(rights::proofs::Ends::as_righted))]
 fn is_right_wrong<S: Places>(b: Bank) -> bool
     ensures { (mail pci addon : List ℕ) → result ≡ ((lane S.side (state_in b mail pci addon)).right && ended S.side (lane S.side (state_in b mail pci addon)) b.mcsr b.intcsr) }
 {
@@ -28,6 +29,7 @@ fn is_right_wrong<S: Places>(b: Bank) -> bool
 }
 
 // Code 1, of a side's lane: a fill, an address, a count, a right.
+#[tactic(auto, using(rights::proofs::Ends::as_filled, rights::proofs::Ends::as_counted, rights::proofs::Ends::as_addressed))]
 fn is_lane_out_of_form<S: Places>(b: Bank) -> bool
     ensures { (mail pci addon : List ℕ) → result ≡ any_of (lane_faults S.side (lane S.side (state_in b mail pci addon)) b.mcsr b.intcsr) }
 {
@@ -169,6 +171,7 @@ pub fn access(b: Bank, s: Step) -> Result<(), Refusal>
 // ---- of a cycle
 
 // Whether the cycle on a side's lane has what it waits for: one word or room for one, or four where MCSR asks for four and it has no right.
+#[tactic(auto, using(rights::proofs::Ends::as_filled, rights::proofs::Ends::as_righted), unfolding(machine::specs::Cycles::is_ready, bank::specs::Bank::state_in))]
 fn is_ready<S: Places>(b: Bank) -> bool
     ensures { (mail pci addon : List ℕ) → result ≡ is_ready S.side (state_in b mail pci addon) }
 {

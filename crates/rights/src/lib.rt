@@ -10,6 +10,7 @@ use bank::{Bank, Places};
 
 // Whether the cycles on a side's lane may go on no longer: no word or no room to go on with, nothing left to count, four no longer asked for, the
 // transfer off, an abort.
+#[tactic(auto, using(crate::proofs::Ends::none_lem, crate::proofs::Ends::as_filled, crate::proofs::Ends::as_counted))]
 pub fn is_ended<S: Places>(b: Bank) -> bool
     ensures { (mail pci addon : List ℕ) → result ≡ ended S.side (lane S.side (state_in b mail pci addon)) b.mcsr b.intcsr }
 {

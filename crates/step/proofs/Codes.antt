@@ -1,5 +1,5 @@
 -- The code of a step in parts: the codes of form first, then those of its kind.
-use Prim.Native.Nat.{ℕ, ◌<◌}
+use Prim.Native.Nat.{ℕ, zero, suc, ◌<◌}
 use mathlib.Core.Path.{◌≡◌, refl, sym, ap, ◌∙◌}
 use mathlib.Core.Bool.{Bool, true, false, cond, not, ◌&&◌, true≢false, false≢true}
 use mathlib.Core.List.{List}
@@ -7,15 +7,17 @@ use native.Mathlib.Decide.{ℕ_discrete}
 use native.Mathlib.Omega.{arith}
 use lib.Dec.{eqb}
 use lib.ListN.{length, drop}
-use borrow.Author.Tests.{lt-ltb}
 use Rattle.machine.specs.Sides.{Side, pci, addon}
 use Rattle.machine.specs.State.{State, reset_state}
 use Rattle.machine.specs.Access.{Access, Kind, reading, writing, cycle, chip_reset, unknown, kind_of, access_of, is_access, is_unknown}
+use Rattle.std.proofs.Common.{Result, Ok, Err}
+use Rattle.machine.specs.Refusals.{refusal_number, kind_at, kind_named}
+use Rattle.machine.specs.declared.codes.Refusal.{Refusal}
+use Rattle.machine.specs.declared.kinds.StepKind.{StepKind}
 use Rattle.machine.specs.Window.{is_window_out_of_form}
 use Rattle.machine.specs.Code.{is_out_of_form, is_unknown_offset, has_bad_enables, is_part_fifo_access, is_read_only_write, is_full_or_empty, is_transfer_off, is_count_zero, is_abort_standing, is_not_ready, is_no_memory, tests, first_of, code_of}
 use Rattle.machine.specs.Step.{Outcome, nothing, done_reply, reply_of, answered, state_after, memory_after, respond, step_of}
 use Rattle.machine.specs.declared.Step.{Step}
-use Rattle.laws.proofs.KindNumbers.{named}
 use Rattle.laws.proofs.Form.{form_kept}
 use Rattle.refusal.specs.Codes.{form_code, access_code, cycle_code, cycle_by}
 use Rattle.refusal.proofs.Tables.{no_cycle}
@@ -43,12 +45,44 @@ module _ (st : State) (start words : ℕ) where
   code-of-cycle pci offset enables value = refl
   code-of-cycle addon offset enables value = refl
 
-  pub code-of-reset : (s : Step) → s.kind ≡ 6 → rest st start words (access_of s) ≡ 0
+  pub code-of-reset : (s : Step) → kind_of s.kind ≡ chip_reset → rest st start words (access_of s) ≡ 0
   unfolding is_unknown_offset has_bad_enables is_part_fifo_access is_read_only_write is_full_or_empty is_transfer_off is_count_zero is_abort_standing is_not_ready is_no_memory
   code-of-reset s k = rw k
 
-  pub code-of-unknown : (s : Step) → 6 < s.kind → rest st start words (access_of s) ≡ 3
-  code-of-unknown s h = rw ((named s.kind).unknown ∙ lt-ltb _ _ h)
+  pub code-of-unknown : (s : Step) → kind_of s.kind ≡ unknown → rest st start words (access_of s) ≡ 3
+  code-of-unknown s k = rw k
+
+-- ---- the kind of a number
+
+pub named_by : (n : ℕ) → kind_of n ≡ kind_named (kind_at n)
+named_by zero = refl
+named_by (suc zero) = refl
+named_by (suc (suc zero)) = refl
+named_by (suc (suc (suc zero))) = refl
+named_by (suc (suc (suc (suc zero)))) = refl
+named_by (suc (suc (suc (suc (suc zero))))) = refl
+named_by (suc (suc (suc (suc (suc (suc zero)))))) = refl
+named_by (suc (suc (suc (suc (suc (suc (suc n))))))) = refl
+
+pub named-as : (n : ℕ) (k of : StepKind) → Ok k ≡ kind_at n → k ≡ of → kind_of n ≡ kind_named (Ok of)
+named-as n k of is e = named_by n ∙ sym (ap kind_named is) ∙ ap (λ (j : StepKind). kind_named (Ok j)) e
+
+pub unnamed : (n : ℕ) (r : Refusal) → Err r ≡ kind_at n → (kind_of n ≡ unknown) × (refusal_number r ≡ 3)
+unnamed n r is = (named_by n ∙ sym (ap kind_named is), ap number is ∙ by n)
+  where
+    number : Result StepKind Refusal → ℕ
+    number (Ok k) = 3
+    number (Err q) = refusal_number q
+
+    by : (m : ℕ) → number (kind_at m) ≡ 3
+    by zero = refl
+    by (suc zero) = refl
+    by (suc (suc zero)) = refl
+    by (suc (suc (suc zero))) = refl
+    by (suc (suc (suc (suc zero)))) = refl
+    by (suc (suc (suc (suc (suc zero))))) = refl
+    by (suc (suc (suc (suc (suc (suc zero)))))) = refl
+    by (suc (suc (suc (suc (suc (suc (suc m))))))) = refl
 
 -- ---- the code of form, told rightly
 
@@ -70,7 +104,7 @@ told_as form st start memory s o f e = e ∙ ap (λ n. told_step n st start memo
 
 -- ---- a reset
 
-pub reset_step : (st : State) (start : ℕ) (memory : List ℕ) (s : Step) → s.kind ≡ 6 → record { state = reset_state; memory = memory; answer = answered reset_state 0 nothing } ≡ respond st start memory (access_of s) 0
+pub reset_step : (st : State) (start : ℕ) (memory : List ℕ) (s : Step) → kind_of s.kind ≡ chip_reset → record { state = reset_state; memory = memory; answer = answered reset_state 0 nothing } ≡ respond st start memory (access_of s) 0
 unfolding respond reply_of done_reply state_after memory_after
 reset_step st start memory s k = rw k
 

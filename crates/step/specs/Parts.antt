@@ -1,9 +1,16 @@
 -- What a step on words promises, whole and in parts: of a kind, of a clear, by a code of form that it is told.
-use Rattle.std.specs.Prelude.{ℕ, ◌≡◌, true, false, cond, List, [], eqb, length, drop}
-use Rattle.machine.specs.Sides.{Side, pci, addon}
-use Rattle.machine.specs.State.{State, Lane}
+use Rattle.std.specs.Int.Bits.{bit_xor}
+use Rattle.std.specs.Prelude.{ℕ, ◌≡◌, true, false, cond, ◌||◌, List, [], ◌∷◌, ◌++◌, eqb, length, drop}
+use Rattle.machine.specs.Sides.{Side, pci, addon, same_side}
+use Rattle.machine.specs.State.{State, Lane, lane, with_lanes, with_interrupts}
 use Rattle.machine.specs.Access.{Access, access_of}
 use Rattle.machine.specs.Commands.{clears_marks, clears_fifo}
+use Rattle.machine.specs.Mailboxes.{mail_after}
+use Rattle.machine.specs.Interrupts.{interrupts_written, notified, count_bit}
+use Rattle.machine.specs.Mcsr.{four_bit, mcsr_after}
+use Rattle.machine.specs.Cycles.{address_kept, count_kept, next_address, count_left, runs_out}
+use Rattle.machine.specs.Offsets.{address_at, count_at}
+use Rattle.machine.specs.Words.{bit, raised, written}
 use Rattle.machine.specs.Rights.{settled}
 use Rattle.machine.specs.Code.{tests, first_of}
 use Rattle.machine.specs.Step.{Outcome, nothing, answered, respond, aborted_state, step_of}
@@ -40,11 +47,55 @@ marks_cleared x st = record { mail = st.mail; marks = cond (clears_marks x) 0 st
 abbrev pub cleared_lane : Side → Access → Lane → Lane
 cleared_lane side x l = record { words = cond (clears_fifo side x) [] l.words; address = l.address; count = l.count; right = cond (clears_fifo side x) false l.right }
 
-abbrev pub pci_cleared : Access → State → State
-pci_cleared x st = record { mail = st.mail; marks = st.marks; from_pci = cleared_lane pci x st.from_pci; from_addon = st.from_addon; intcsr = st.intcsr; mcsr = st.mcsr; aint = st.aint }
+-- an owner's write stores in its mailbox
+abbrev pub mail_stored : Access → State → State
+mail_stored x st = record { mail = mail_after x st.mail; marks = st.marks; from_pci = st.from_pci; from_addon = st.from_addon; intcsr = st.intcsr; mcsr = st.mcsr; aint = st.aint }
 
-abbrev pub addon_cleared : Access → State → State
-addon_cleared x st = record { mail = st.mail; marks = st.marks; from_pci = st.from_pci; from_addon = cleared_lane addon x st.from_addon; intcsr = st.intcsr; mcsr = st.mcsr; aint = st.aint }
+-- ---- what a side undergoes
+
+-- its lane, by a rule
+abbrev pub lane_changed : Side → (Lane → Lane) → State → State
+lane_changed side new st = with_lanes (λ of l. cond (same_side side of) (new l) l) st
+
+-- the front word leaves; a word comes in
+abbrev pub without_front : Lane → Lane
+without_front l = record { words = drop 1 l.words; address = l.address; count = l.count; right = l.right }
+
+abbrev pub with_last : ℕ → Lane → Lane
+with_last x l = record { words = l.words ++ x ∷ []; address = l.address; count = l.count; right = l.right }
+
+-- its address and its count, as a write leaves them
+abbrev pub registers_written : Side → Access → Lane → Lane
+registers_written side x l =
+    record {
+      words = l.words;
+      address = cond (eqb x.offset (address_at side)) (written address_kept l.address x.value x.enables) l.address;
+      count = cond (eqb x.offset (count_at side)) (written count_kept l.count x.value x.enables) l.count;
+      right = l.right;
+    }
+
+-- its interrupt register, written
+abbrev pub interrupts_stored : Side → Access → State → State
+interrupts_stored side x st = with_interrupts (λ of i. cond (same_side side of) (interrupts_written side i x.value x.enables) i) st
+
+-- marks change, of which it is told
+abbrev pub event_told : Side → ℕ → State → State
+event_told side changed st =
+    with_interrupts (λ of i. cond (same_side side of) (notified i changed) i)
+    (record { mail = st.mail; marks = bit_xor st.marks changed; from_pci = st.from_pci; from_addon = st.from_addon; intcsr = st.intcsr; mcsr = st.mcsr; aint = st.aint })
+
+-- MCSR, written; MCSR or AGCSTS, with what it clears
+abbrev pub mcsr_stored : Access → State → State
+mcsr_stored x st = record { mail = st.mail; marks = st.marks; from_pci = st.from_pci; from_addon = st.from_addon; intcsr = st.intcsr; mcsr = mcsr_after x st.mcsr; aint = st.aint }
+
+abbrev pub controlled : Access → State → State
+controlled x st = lane_changed addon (cleared_lane addon x) (lane_changed pci (cleared_lane pci x) (marks_cleared x (mcsr_stored x st)))
+
+-- a cycle on its lane, but for the word that it moves: the flags, the next address, the count left, and the right, had or asked for
+abbrev pub passed : Side → State → State
+passed side st =
+    with_interrupts (λ of i. raised i (runs_out (lane side st).count) (count_bit side))
+    (lane_changed side (λ l. record { words = l.words; address = next_address l.address; count = count_left l.count; right = l.right || bit st.mcsr (four_bit side) }) st)
 
 -- ---- the kinds
 

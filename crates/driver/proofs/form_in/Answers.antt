@@ -19,5 +19,5 @@ pub returns : goal.returns
 unfolding form_of_words is_controller
 returns c =
     let l = c.args.words.now in
-    let b = c.bank_in-b in
+    let b = c.bank_in in
     rw (c.if-words-ne-WORDS.false, c.if-not-words.false) (c.form.ensures (mail_in l) (pci_in l) (addon_in l) ∙ (λ i. form_code (at_words l b.result b.ensures i) c.args.start c.args.count))

@@ -2,7 +2,7 @@ use mathlib.Core.Path.{◌≡◌, refl, ◌∙◌}
 use native.Mathlib.Omega.{arith}
 use lib.Dec.{eqb}
 use lib.IntN.{pos}
-use lib.ListN.{length, length-set}
+use lib.ListN.{length}
 use mir.Syntax.{w64}
 use mir.ValLaws.{to_z_pos}
 use Rattle.machine.specs.declared.Step.{Step}
@@ -14,35 +14,25 @@ use Rattle.driver.proofs.Words.{left_by_lem}
 use Rattle.driver.proofs.Call.{step-code}
 use Rattle.driver.proofs.s5933_step.Goals as goal
 
-pub returns-then-answer-ne-ANSWER_WORDS : goal.returns-then-answer-ne-ANSWER_WORDS
-returns-then-answer-ne-ANSWER_WORDS c =
-    record {
-      unasked = λ other. (refl, (refl, (refl, refl)));
-      told = λ asked. absurd (c.if-answer-ne-ANSWER_WORDS.true asked);
-    }
-
-pub shape_of-answer : goal.shape_of-answer
-shape_of-answer c = c.put_answer.auto.words ∙ length-set c.args.answer.now 0 c.form_in-form.result
-
 pub returns : goal.returns
 returns c =
-    let p = c.put_answer in
+    let p = c.words_of in
     let k = c.in_words-a in
-    let g = c.form_in-form in
+    let g = c.form_in in
     let a = c.args in
     let words = a.controller.now in
     let memory = a.memory.now in
     let s : Step = record { kind = a.kind; offset = a.offset; enables = a.enables; value = a.value } in
-    let promised : InWords words memory a.start (form_of_words words a.start (length memory)) s k.result k.new.words k.new.memory = rw (← g.ensures) k.ensures in
+    let promised : InWords words memory a.start (form_of_words words a.start (length memory)) s k.result k.new.words k.new.memory = rw (← c.code-form.ensures ∙ g.ensures) k.ensures in
     let e = left_by_lem words a.start memory s k.result k.new.words k.new.memory k.auto.words promised in
     let code = k.result.code in
     let same : code ≡ (step_of_words words a.start memory s).answer.code = λ i. (e.outcome i).answer.code in
     let small = in_list 256 step_codes (step_of_words words a.start memory s).answer.code refl (step-code words a.start memory s) in
     record {
-      unasked = λ other. absurd (other c.if-answer-ne-ANSWER_WORDS.false);
+      unasked = λ other. absurd (other c.in-Some.ensures.cases.long);
       told = λ asked.
           record {
-            result = to_z_pos w64 code (omega (arith, same, small)) ∙ (λ i. pos (e.outcome i).answer.code);
+            result = rw c.from.ensures (to_z_pos w64 code (omega (arith, same, small)) ∙ (λ i. pos (e.outcome i).answer.code));
             answer = p.ensures ∙ (λ i. words_of_answer (e.outcome i).answer);
             state = λ i. (e.outcome i).state;
             memory = λ i. (e.outcome i).memory;

@@ -1,9 +1,7 @@
 use mathlib.Core.Path.{refl, sym, ap, ◌∙◌}
 use mathlib.Core.Bool.{not, ◌&&◌, true≢false}
 use mathlib.Core.List.{[], ◌∷◌}
-use native.Mathlib.Omega.{arith}
 use lib.Dec.{eqb}
-use lib.ListN.{length-set}
 use borrow.Author.Tests.{ne_eqb}
 use Rattle.machine.specs.Sides.{pci, addon}
 use Rattle.machine.specs.State.{lane}
@@ -35,16 +33,13 @@ returns c =
     let m = mail_in l in
     let p = pci_in l in
     let d = addon_in l in
-    let read = ap is_right c.one_if-read.ensures ∙ right_word _
-    ∙ (λ i. (b.ensures i).pci_right && not ((c.is_read_ended.ensures m p d ∙ (λ j. ended pci (lane pci (state_in (b.ensures j) m p d)) (b.ensures j).mcsr (b.ensures j).intcsr)) i)) in
-    let write = ap is_right c.one_if-write.ensures ∙ right_word _
-    ∙ (λ i. (b.ensures i).addon_right && not ((c.is_write_ended.ensures m p d ∙ (λ j. ended addon (lane addon (state_in (b.ensures j) m p d)) (b.ensures j).mcsr (b.ensures j).intcsr)) i)) in
-    let e = stand_numbers ((36, c.one_if-read.result) ∷ (37, c.one_if-write.result) ∷ []) refl (stand l c.requires) in
+    let read = ap is_right c.from.ensures ∙ right_word _
+    ∙ (λ i. (b.ensures i).from_pci.right && not ((c.is_ended.ensures m p d ∙ (λ j. ended pci (lane pci (state_in (b.ensures j) m p d)) (b.ensures j).mcsr (b.ensures j).intcsr)) i)) in
+    let write = ap is_right c.from-2.ensures ∙ right_word _
+    ∙ (λ i. (b.ensures i).from_addon.right && not ((c.is_ended-2.ensures m p d ∙ (λ j. ended addon (lane addon (state_in (b.ensures j) m p d)) (b.ensures j).mcsr (b.ensures j).intcsr)) i)) in
+    let e = stand_numbers ((36, c.from.result) ∷ (37, c.from-2.result) ∷ []) refl (stand l c.told-words) in
     record {
       state = stand-state e ∙ rw (read, write, c.if-code-ne-DONE.false);
-      rights = λ h. stand-rights e ∙ rw (c.one_if-read.ensures, c.one_if-write.ensures, right_small (b.result.pci_right && not c.is_read_ended.result), right_small (b.result.addon_right && not c.is_write_ended.result));
+      rights = λ h. stand-rights e ∙ rw (c.from.ensures, c.from-2.ensures, right_small (b.result.from_pci.right && not c.is_ended.result), right_small (b.result.from_addon.right && not c.is_ended-2.result));
       refused = λ z. absurd (true≢false (sym (ap (λ n. eqb n 0) c.if-code-ne-DONE.false) ∙ z));
     }
-
-pub bounds-words-37 : goal.bounds-words-37
-bounds-words-37 c = rw length-set (omega (arith, c.requires))

@@ -32,12 +32,12 @@ ran l c b form start memory after left s a long stands numbers is kept =
     told_as form (state_of_words l) start memory s _ coded (kept.outcome long)
     ∙ (λ i. step_of (stands i) start memory s)
 
-pub returns-then-answer : goal.returns-then-answer
-returns-then-answer c =
-    let e = ran c.words_of-words.result c.args.c c.bank_in-b.result c.form-form.result c.args.start c.args.memory.now c.in_words-answer.new.words c.in_words-answer.new.memory c.args.s c.in_words-answer.result c.words_of-words.ensures.0 c.words_of-words.ensures.1.1 c.bank_in-b.ensures c.form-form.ensures c.in_words-answer.ensures in
+pub returns-then-answer-from : goal.returns-then-answer-from
+returns-then-answer-from c =
+    let e = ran c.words_of-words.result c.args.c c.bank_in-b.result c.code-form.result c.args.start c.args.memory.now c.in_words-answer.new.words c.in_words-answer.new.memory c.args.s c.in_words-answer.result c.words_of-words.ensures.0 c.words_of-words.ensures.1.1 c.bank_in-b.ensures (λ mail places behind. c.code-form.ensures ∙ c.form.ensures mail places behind) c.in_words-answer.ensures in
     let code = c.in_words-answer.result.code in
-    let zero = not-true (eqb code 0) (and_left (not (eqb code 0)) (not (eqb code 13)) c.if-answer.true) in
-    let abort = not-true (eqb code 13) (and_right (not (eqb code 0)) (not (eqb code 13)) c.if-answer.true) in
+    let zero = not-true (eqb code 0) (and_left (not (eqb code 0)) (not (eqb code 13)) (rw c.from.ensures at c.if-answer-from.true)) in
+    let abort = not-true (eqb code 13) (and_right (not (eqb code 0)) (not (eqb code 13)) (rw c.from.ensures at c.if-answer-from.true)) in
     let q = refused (state_of c.args.c) c.args.start c.args.memory.now c.args.s (sym (λ i. eqb (e i).answer.code 0) ∙ zero) (sym (λ i. eqb (e i).answer.code 13) ∙ abort) in
     record {
       outcome = λ i. record { state = sym (λ j. (q j).state) i; memory = (e i).memory; answer = (e i).answer };
@@ -47,6 +47,6 @@ returns-then-answer c =
 pub returns : goal.returns
 returns c =
     record {
-      outcome = (λ i. record { state = c.controller_of-controller.ensures i; memory = c.in_words-answer.new.memory; answer = c.in_words-answer.result }) ∙ ran c.words_of-words.result c.args.c c.bank_in-b.result c.form-form.result c.args.start c.args.memory.now c.in_words-answer.new.words c.in_words-answer.new.memory c.args.s c.in_words-answer.result c.words_of-words.ensures.0 c.words_of-words.ensures.1.1 c.bank_in-b.ensures c.form-form.ensures c.in_words-answer.ensures;
-      refused = λ zero abort. absurd (neither_code _ _ c.if-answer.false zero abort);
+      outcome = (λ i. record { state = c.controller_of-controller.ensures i; memory = c.in_words-answer.new.memory; answer = c.in_words-answer.result }) ∙ ran c.words_of-words.result c.args.c c.bank_in-b.result c.code-form.result c.args.start c.args.memory.now c.in_words-answer.new.words c.in_words-answer.new.memory c.args.s c.in_words-answer.result c.words_of-words.ensures.0 c.words_of-words.ensures.1.1 c.bank_in-b.ensures (λ mail places behind. c.code-form.ensures ∙ c.form.ensures mail places behind) c.in_words-answer.ensures;
+      refused = λ zero abort. absurd (neither_code _ _ (rw c.from.ensures at c.if-answer-from.false) zero abort);
     }

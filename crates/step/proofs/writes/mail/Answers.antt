@@ -1,0 +1,20 @@
+use mathlib.Core.Path.{refl}
+use Rattle.bank.specs.Bank.{state_in}
+use Rattle.step.proofs.Answers.{access-refused, access-done, mail-done}
+use Rattle.step.proofs.writes.mail.Goals as goal
+
+pub returns-in-Err : goal.returns-in-Err
+returns-in-Err g c =
+    let a = c.args in
+    let k = c.in-Err in
+    access-refused a.words.now a.s c.bank_in-b.result c.bank_in-b.ensures k.r k.ensures.goes_on k.ensures.code c.from.result c.from.ensures c.refused.result c.refused.ensures
+
+pub returns : goal.returns
+unfolding state_in
+returns g c =
+    let l = c.args.words.now in
+    let s = c.args.s in
+    let b = c.bank_in-b in
+    let go = c.in-Ok.ensures in
+    access-done l s b.result 0 b.ensures (go.goes_on, go.code) c.done.result _ refl
+    (mail-done l _ s c.done.result g.S.Side.side _ g.met.S.Party.other_is c.requires.0 c.requires.1 c.told-words _ c.store.ensures c.changes-changed.result c.changes-changed.ensures c.tell.ensures c.done.ensures)

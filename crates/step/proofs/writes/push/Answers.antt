@@ -1,0 +1,18 @@
+use mathlib.Core.Path.{refl, sym}
+use Rattle.step.proofs.Answers.{coded, access-refused, access-done, push-done}
+use Rattle.step.proofs.writes.push.Goals as goal
+
+pub returns-in-Err : goal.returns-in-Err
+returns-in-Err g c =
+    let a = c.args in
+    let k = c.in-Err in
+    access-refused a.words.now a.s c.bank_in-b.result c.bank_in-b.ensures k.r k.ensures.goes_on k.ensures.code c.from.result c.from.ensures c.refused.result c.refused.ensures
+
+pub returns : goal.returns
+returns g c =
+    let l = c.args.words.now in
+    let s = c.args.s in
+    let b = c.bank_in-b in
+    let go = c.in-Ok.ensures in
+    access-done l s b.result 0 b.ensures (go.goes_on, go.code) c.done.result _ refl
+    (push-done l _ s c.done.result g.S.Side.side c.requires.0 c.requires.1 (sym (coded l s b.result 0 b.ensures (go.goes_on, go.code))) c.put_word.ensures c.done.ensures)
