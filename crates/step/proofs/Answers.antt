@@ -25,7 +25,7 @@ use Rattle.machine.specs.declared.Step.{Step}
 use Rattle.machine.specs.declared.Answer.{Answer}
 use Rattle.bank.specs.declared.Bank.{Bank}
 use Rattle.bank.specs.Bank.{state_in}
-use Rattle.bank.specs.Words.{part, mail_in, pci_in, addon_in, bank_by, bank_in, state_of_words, rights_by, has_rights}
+use Rattle.bank.specs.Words.{part, mail_in, pci_in, addon_in, bank_in, state_of_words, has_rights}
 use Rattle.bank.proofs.Words.{Stand, stand, stand-state, stand-rights, stand-mail}
 use Rattle.refusal.specs.Codes.{access_code, cycle_code, cycle_by}
 use Rattle.step.specs.Parts.{settled_outcome, outcome_in, lane_changed, without_front, with_last, mail_stored, event_told, Stored, Kept, Done, Accessed, Cycled}
@@ -111,9 +111,6 @@ done_code st reply a e f = true≢false (sym (λ i. eqb (e i).code 0) ∙ f)
 pub done_kept : (l l' : List ℕ) (st : State) (reply : Reply) (a : Answer) → a ≡ answered st 0 reply → (has_rights l ≡ true → has_rights l' ≡ true) → Kept l a l'
 done_kept l l' st reply a e h = record { rights = h; refused = λ z f. absurd (done_code st reply a e z) }
 
-pub kept_by : {l' mail places behind : List ℕ} {n : ℕ → ℕ} (l : List ℕ) (reply : Reply) (a : Answer) → Stand l' mail places behind n → a ≡ answered (state_in (bank_by n) mail places behind) 0 reply → (has_rights l ≡ true → rights_by n ≡ true) → Kept l a l'
-kept_by {l'} {mail} {places} {behind} {n} l reply a e w h = done_kept l l' (state_in (bank_by n) mail places behind) reply a w (λ f. stand-rights e ∙ h f)
-
 -- done, with what stands in the words then
 module _ (l : List ℕ) (s : Step) (reply : Reply) (a : Answer) where
   pub done-as : (l' : List ℕ) (after : State) → state_of_words l' ≡ after → is_reset (access_of s).kind ≡ false → cycles addon (access_of s).kind ≡ false
@@ -124,12 +121,6 @@ module _ (l : List ℕ) (s : Step) (reply : Reply) (a : Answer) where
     λ start memory. (λ i. settled_outcome (record { state = e i; memory = memory; answer = a })) ∙ done_step (state_of_words l) start memory (access_of s) 0 after reply a refl reset store (r start memory) m w,
     done_kept l l' after reply a w h,
   )
-
-  pub done-by : {l' mail places behind : List ℕ} {n : ℕ → ℕ} → Stand l' mail places behind n → is_reset (access_of s).kind ≡ false → cycles addon (access_of s).kind ≡ false
-      → ((start : ℕ) (memory : List ℕ) → reply ≡ done_reply (access_of s).kind (state_of_words l) start memory (access_of s))
-      → state_in (bank_by n) mail places behind ≡ moved_state (state_of_words l) (access_of s) reply.value
-      → a ≡ answered (state_in (bank_by n) mail places behind) 0 reply → (has_rights l ≡ true → rights_by n ≡ true) → Done s l a l'
-  done-by {l'} {mail} {places} {behind} {n} e reset store r m w h = done-as l' (state_in (bank_by n) mail places behind) (stand-state e) reset store r m w (λ f. stand-rights e ∙ h f)
 
 -- a read or a write is no reset and stores nothing in memory
 plain : (k : Kind) → is_access k ≡ true → (is_reset k ≡ false) × (cycles addon k ≡ false)
