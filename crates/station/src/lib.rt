@@ -6,7 +6,7 @@ ghost use Rattle.station.specs.Call.{CallPromised};
 ghost use Rattle.station.specs.HexCalls.{Fits, exported_number, length_result, ExportPromised, LoadPromised};
 
 use frame_log::NoRoom;
-use machine::{codes, Refusal};
+use machine::{Refusal, codes};
 
 // The longest input, in bytes.
 const INPUT_MOST: usize = 1_048_576;
