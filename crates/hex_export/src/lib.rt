@@ -112,6 +112,7 @@ fn put_changed(out: &mut [u8], at: usize, upper: u16, next: u16) -> usize
     put_upper(out, at, next)
 }
 
+// Writes the end record, which is always the same text.
 fn put_end(out: &mut [u8], at: usize) -> usize
     requires { at + 12 ≤ length out.old }
     ensures { Wrote out.old at (text_of end_record) result out.new }
@@ -142,7 +143,7 @@ fn text_length(words: usize, start: u32) -> usize
     28 + 2 * bytes + 12 * ((first + 15) / 16 + (second + 15) / 16) + upper
 }
 
-// Writes a window's export.
+// Writes a window's export: records, which end at a 64 KiB border.
 fn put_text(out: &mut [u8], memory: &[u32], start: u32) -> usize
     requires { (start % 4 ≡ 0) × (length memory.now ≤ 16384) × (length (export_of start memory.now) ≤ length out.old) }
     ensures { Wrote out.old 0 (export_of start memory.now) result out.new }

@@ -119,10 +119,6 @@ module _ (start words upper : ℕ) (t : List ℕ) (some : 0 < length t) where
 
 -- ---- its first four bytes
 
--- two bytes as a number, and back
-pub two_bytes : (a b : ℕ) → a < 256 → b < 256 → ((a * 256 + b) / 256 ≡ a) × ((a * 256 + b) % 256 ≡ b)
-two_bytes a b h k = (omega arith, omega arith)
-
 module _ (t : List ℕ) (fits : 9 ≤ length t) (all : all_digits (take 8 (drop 1 t)) ≡ true) where
   pub four_bytes : bytes_high_first 4 (number (take 8 (drop 1 t))) ≡ byte_in t 0 ∷ byte_in t 1 ∷ byte_in t 2 ∷ byte_in t 3 ∷ []
   unfolding bytes_at

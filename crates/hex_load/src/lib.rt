@@ -196,6 +196,7 @@ struct Refused {
     at: usize,
 }
 
+// What refuses it alone.
 impl From<Refused> for Refusal {
     ghost from_gives = { λ r x. x ≡ r.refusal };
 
