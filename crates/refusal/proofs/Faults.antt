@@ -5,7 +5,7 @@ use mathlib.Core.List.{[], ◌∷◌}
 use Rattle.machine.specs.Words.{any_of}
 
 pub in_pairs : (p₁ p₂ p₃ p₄ a₁ a₂ a₃ a₄ i m n : Bool)
-    → any_of (any_of (p₁ ∷ p₂ ∷ p₃ ∷ p₄ ∷ []) ∷ any_of (a₁ ∷ a₂ ∷ a₃ ∷ a₄ ∷ []) ∷ i ∷ m ∷ n ∷ []) ≡ ((p₁ || a₁ || ((p₂ || a₂) || (p₃ || a₃))) || i || m || n || (p₄ || a₄))
+    → any_of (any_of (p₁ ∷ p₂ ∷ p₃ ∷ p₄ ∷ []) ∷ any_of (a₁ ∷ a₂ ∷ a₃ ∷ a₄ ∷ []) ∷ i ∷ m ∷ n ∷ []) ≡ (((p₁ || a₁ || ((p₂ || a₂) || (p₃ || a₃))) || (i || m || n)) || (p₄ || a₄))
 in_pairs true p₂ p₃ p₄ a₁ a₂ a₃ a₄ i m n = refl
 in_pairs false true p₃ p₄ a₁ a₂ a₃ a₄ i m n = simp or-true
 in_pairs false false true p₄ a₁ a₂ a₃ a₄ i m n = simp or-true

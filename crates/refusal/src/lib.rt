@@ -43,15 +43,17 @@ fn is_right_wrong(b: Bank) -> bool
         | b.from_addon.right & rights::is_ended::<Addon>(b)
 }
 
-// Code 1, of all: the lanes, a bit in INTCSR, MCSR or AINT that it does not hold, a right.
+// Code 1, of all: the lanes, a bit in INTCSR, MCSR or AINT that it does not hold; and only then a right.
 fn is_out_of_form(b: Bank) -> bool
     ensures { (mail pci addon : List ℕ) → result ≡ is_out_of_form (state_in b mail pci addon) }
 {
-    are_lanes_out_of_form(b)
-        | !word::is_only(Pci::KEPT | Pci::FLAGS, b.intcsr)
+    let registers = !word::is_only(Pci::KEPT | Pci::FLAGS, b.intcsr)
         | !word::is_only(mcsr::KEPT, b.mcsr)
-        | !word::is_only(Addon::KEPT | Addon::FLAGS, b.aint)
-        | is_right_wrong(b)
+        | !word::is_only(Addon::KEPT | Addon::FLAGS, b.aint);
+    if are_lanes_out_of_form(b) | registers {
+        return true;
+    }
+    is_right_wrong(b)
 }
 
 // Codes 1 and 2: no step changes which.
