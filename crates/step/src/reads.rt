@@ -45,6 +45,8 @@ pub(crate) fn read<S: Party>(words: &mut Words, s: Step) -> Answer
     requires { s.kind ≡ read_kind S.side }
     ensures { Accessed s words.old result words.new }
 {
+    // its kind by name, so that nothing below asks for it again
+    let s = Step { kind: S::READ, ..s };
     if s.offset == offsets::FIFO_PORT {
         return pop::<S>(words, s);
     }

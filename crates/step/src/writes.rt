@@ -52,6 +52,7 @@ fn clear_marks(words: &mut Words, s: Step)
 }
 
 // What MCSR keeps of a write, and what one to MCSR or to AGCSTS clears.
+#[inline(always)]
 fn control(words: &mut Words, s: Step)
     ensures { Stored (controlled (access_of s)) words.old words.new }
 {
@@ -62,6 +63,7 @@ fn control(words: &mut Words, s: Step)
 }
 
 // The address and the count of a lane, if the step writes them.
+#[inline(always)]
 fn transfer<L: Places>(words: &mut Words, s: Step)
     ensures { Stored (lane_changed L.side (registers_written L.side (access_of s))) words.old words.new }
 {
@@ -99,6 +101,11 @@ pub(crate) fn write<S: Party>(words: &mut Words, s: Step) -> Answer
     requires { s.kind ≡ write_kind S.side }
     ensures { Accessed s words.old result words.new }
 {
+    // its kind by name, so that nothing below asks for it again
+    let s = Step {
+        kind: S::WRITE,
+        ..s
+    };
     if s.offset == offsets::FIFO_PORT {
         return push::<S>(words, s);
     }
