@@ -218,7 +218,7 @@ fn feed_bytes(
     ensures { PieceLogged set (piece_outcome (state_of s.controller) start memory.old (begun_of s) piece.now) result memory.new out.old at out.new }
 {
     let mut words = bank::words_of(s.controller);
-    let form = refusal::form(bank::bank_in(&words), start, memory.len());
+    let form = codes::code(refusal::form(bank::bank_in(&words), start, memory.len()));
     let mut progress = Progress::begin(s);
     let mut next = at;
     while let Some(said) = progress.next_line(piece) {
@@ -369,7 +369,7 @@ pub fn count(s: Stream, memory: &mut [u32], start: u32, piece: &[u8], before: Cy
     ensures { counted_outcome result memory.new ≡ count_of (state_of s.controller) start memory.old (begun_of s) piece.now before.writes before.reads }
 {
     let mut words = bank::words_of(s.controller);
-    let form = refusal::form(bank::bank_in(&words), start, memory.len());
+    let form = codes::code(refusal::form(bank::bank_in(&words), start, memory.len()));
     let mut progress = Progress::begin(s);
     let mut cycles = before;
     while let Some(said) = progress.next_line(piece) {

@@ -19,7 +19,7 @@ loop-said-init c =
       refl,
       rw (w.ensures.1.1, p.ensures.0, p.ensures.1),
       rw (w.ensures.1.1, p.ensures.0, p.ensures.1),
-      c.form-form.ensures (mail_in l) (pci_in l) (addon_in l) ∙ (λ i. form_code (at_words l b.result b.ensures i) c.args.start (length c.args.memory.now)),
+      c.code-form.ensures ∙ c.form.ensures (mail_in l) (pci_in l) (addon_in l) ∙ (λ i. form_code (at_words l b.result b.ensures i) c.args.start (length c.args.memory.now)),
       omega arith,
       omega arith,
     )

@@ -23,7 +23,7 @@ loop-said-init c =
       refl,
       wrote_none,
       rw (w.ensures.1.1, c.begin-progress.ensures.0, c.begin-progress.ensures.1),
-      c.form-form.ensures (mail_in l) (pci_in l) (addon_in l) ∙ (λ i. form_code (at_words l b.result b.ensures i) c.args.start (length c.args.memory.now)),
+      c.code-form.ensures ∙ c.form.ensures (mail_in l) (pci_in l) (addon_in l) ∙ (λ i. form_code (at_words l b.result b.ensures i) c.args.start (length c.args.memory.now)),
     )
 
 pub loop-said-preserved : goal.loop-said-preserved
