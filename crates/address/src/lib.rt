@@ -3,10 +3,9 @@
 
 ghost use Rattle.std.specs.Prelude.{◌≡◌, if◌then◌else◌, nat_eq};
 ghost use Rattle.machine.specs.Words.{written};
-ghost use Rattle.machine.specs.Offsets.{address_at};
 ghost use Rattle.machine.specs.Cycles.{address_kept, next_address};
 
-use machine::{Side, Step, WORD_BYTES};
+use machine::{Step, WORD_BYTES};
 
 // The bits that an address keeps: 31 to 2.
 const KEPT: u32 = 0xFFFF_FFFC;
@@ -18,11 +17,11 @@ pub fn next_address(address: u32) -> u32
     std::num::wrapping_add_u32(address, WORD_BYTES)
 }
 
-// The address register of a side's lane after a PCI write.
-pub fn written<S: Side>(s: Step, old: u32) -> u32
-    ensures { result ≡ (if nat_eq s.offset (address_at S.side) then written address_kept old s.value s.enables else old) }
+// The address register at an offset after a PCI write.
+pub fn written(at: u32, s: Step, old: u32) -> u32
+    ensures { result ≡ (if nat_eq s.offset at then written address_kept old s.value s.enables else old) }
 {
-    if s.offset == S::ADDRESS {
+    if s.offset == at {
         return word::written(KEPT, old, s.value, s.enables);
     }
     old

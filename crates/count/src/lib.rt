@@ -3,11 +3,10 @@
 
 ghost use Rattle.std.specs.Prelude.{◌≡◌, cond, eqb, ltb};
 ghost use Rattle.machine.specs.Words.{written};
-ghost use Rattle.machine.specs.Offsets.{count_at};
 ghost use Rattle.machine.specs.Cycles.{moved, low_enables, count_kept, count_left, runs_out};
 
 use controller::ByteCount;
-use machine::{Side, Step, WORD_BYTES};
+use machine::{Step, WORD_BYTES};
 
 // The bits that a count keeps, 25 to 0, and so the largest count in form.
 const KEPT: u32 = 0x03FF_FFFF;
@@ -62,11 +61,11 @@ pub fn runs_out(count: ByteCount) -> bool
     count_left(count).0 == 0
 }
 
-// The count register of a side's lane after a PCI write.
-pub fn written<S: Side>(s: Step, old: ByteCount) -> ByteCount
-    ensures { result.0 ≡ cond (eqb s.offset (count_at S.side)) (written count_kept old.0 s.value s.enables) old.0 }
+// The count register at an offset after a PCI write.
+pub fn written(at: u32, s: Step, old: ByteCount) -> ByteCount
+    ensures { result.0 ≡ cond (eqb s.offset at) (written count_kept old.0 s.value s.enables) old.0 }
 {
-    if s.offset == S::COUNT {
+    if s.offset == at {
         return ByteCount(word::written(KEPT, old.0, s.value, s.enables));
     }
     old

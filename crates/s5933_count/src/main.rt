@@ -60,5 +60,5 @@ fn main(rt: HostRuntime) -> ExitCode {
         memory: [0; 4096],
     };
     let ended = streams::run(&rt, "s5933_count: read", &mut rt.reader(), &mut count);
-    streams::tell(&rt, ended)
+    streams::tell_end(&rt, ended)
 }

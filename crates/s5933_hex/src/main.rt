@@ -216,5 +216,5 @@ fn read_and_answer<R: Print + Eprint, I: Read>(
 fn main(rt: HostRuntime) -> ExitCode {
     let mut text = [0u8; 1048577];
     let ended = read_and_answer(&rt, &mut rt.reader(), &mut text);
-    streams::tell(&rt, ended)
+    streams::tell_end(&rt, ended)
 }

@@ -75,5 +75,5 @@ fn main(rt: HostRuntime) -> ExitCode {
         out: [0; 671785],
     };
     let ended = streams::run(&rt, "s5933_log: read", &mut rt.reader(), &mut log);
-    streams::tell(&rt, ended)
+    streams::tell_end(&rt, ended)
 }

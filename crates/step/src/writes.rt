@@ -67,8 +67,8 @@ fn control(words: &mut Words, s: Step)
 fn transfer<L: Places>(words: &mut Words, s: Step)
     ensures { Stored (lane_changed L.side (registers_written L.side (access_of s))) words.old words.new }
 {
-    let address = address::written::<L>(s, words[L::ADDRESS_AT]);
-    let count = count::written::<L>(s, ByteCount(words[L::COUNT_AT]));
+    let address = address::written(L::ADDRESS, s, words[L::ADDRESS_AT]);
+    let count = count::written(L::COUNT, s, ByteCount(words[L::COUNT_AT]));
     words[L::ADDRESS_AT] = address;
     words[L::COUNT_AT] = count.0;
 }

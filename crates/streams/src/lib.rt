@@ -128,15 +128,22 @@ fn digit(ended: Result<(), Stop>) -> Option<u8>
 }
 
 // Says by a digit on descriptor 3 how a program ended, and gives its exit status. Nothing is said where nobody has opened the descriptor.
-pub fn tell<R: Files>(rt: &R, ended: Result<(), Stop>) -> ExitCode
-    ensures unread { ended ≡ Err Stop.Unread → exit_status result ≡ 141 }
-    ensures told { ended ≢ Err Stop.Unread → exit_status result ≡ 0 }
+pub fn tell<R: Files>(rt: &R, digit: u8) -> ExitCode
+    ensures { exit_status result ≡ 0 }
 {
-    let Some(digit) = digit(ended) else {
-        return ExitCode::from(UNREAD);
-    };
     if let Ok(mut status) = OpenOptions::new().read(true).append(true).open(rt, STATUS) {
         let _ = status.write_all(&[digit]);
     }
     ExitCode::SUCCESS
+}
+
+// Says how a run ended, and gives the exit status. Where nobody reads the output, nothing is said.
+pub fn tell_end<R: Files>(rt: &R, ended: Result<(), Stop>) -> ExitCode
+    ensures unread { ended ≡ Err Stop.Unread → exit_status result ≡ 141 }
+    ensures told { ended ≢ Err Stop.Unread → exit_status result ≡ 0 }
+{
+    match digit(ended) {
+        Some(digit) => tell(rt, digit),
+        None => ExitCode::from(UNREAD),
+    }
 }
