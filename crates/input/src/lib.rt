@@ -16,6 +16,9 @@ use controller::Controller;
 use frame_log::{NoRoom, Stream};
 use logline::LINE_ROOM;
 
+// The byte that ends a line.
+const LF: u8 = b'\n';
+
 // What has come of the set line: nothing, a digit, both of them.
 #[derive(Clone, Copy, Debug, PartialEq, Eq)]
 pub enum SetLine {
@@ -97,7 +100,7 @@ fn byte_heard(line: SetLine, b: u8) -> Reading
     match line {
         SetLine::Nothing => first_digit(b),
         SetLine::Digit(high) => second_digit(high, b),
-        SetLine::Number(set) if b == b'\n' => Reading::Frames(set),
+        SetLine::Number(set) if b == LF => Reading::Frames(set),
         SetLine::Number(_) => Reading::Over,
     }
 }

@@ -10,8 +10,8 @@ returns-in-Digit c = rw c.in-Digit.is c.second_digit.ensures
 
 pub returns-in-Number : goal.returns-in-Number
 unfolding heard
-returns-in-Number c = rw c.in-Number.is (simp (eq-eqb _ _ c.if-b-eq10.true))
+returns-in-Number c = rw c.in-Number.is (simp (eq-eqb _ _ c.if-b-eq-LF.true))
 
 pub returns-in-Number-2 : goal.returns-in-Number-2
 unfolding heard
-returns-in-Number-2 c = rw c.in-Number-2.is (simp (ne_eqb _ _ c.if-b-eq10.false))
+returns-in-Number-2 c = rw c.in-Number-2.is (simp (ne_eqb _ _ c.if-b-eq-LF.false))
