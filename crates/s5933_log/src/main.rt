@@ -44,11 +44,7 @@ impl Program for Log {
 }
 
 // Writes the log that stands at the output's start.
-fn write<R: Print + Eprint>(
-    rt: &R,
-    log: Result<usize, NoRoom>,
-    out: &[u8],
-) -> Result<(), Stop>
+fn write<R: Print + Eprint>(rt: &R, log: Result<usize, NoRoom>, out: &[u8]) -> Result<(), Stop>
     requires { is_within log out.now ≡ true }
 {
     match log {
