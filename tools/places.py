@@ -47,23 +47,14 @@ FN = re.compile(r"^(    )?(pub(\([a-z]+\))? )?(extern \"C\" )?fn ([a-z_0-9]+)", 
 def functions(top):
     for crate, path, text in sources(top):
         for m in FN.finditer(text):
-            indent = m.group(1) or ""
-            end = text.find(f"\n{indent}{{\n", m.start())
-            one = re.search(r"[{;]\n", text[m.start():])
-            first = text[m.start():m.start() + one.end()] if one else ""
-            if first.rstrip().endswith(";"):
+            opens = re.compile(r"^" + (m.group(1) or "") + r"\{$|^.* \{$|;$", re.M).search(text, m.start())
+            if not opens or opens.group(0).endswith(";"):
                 continue
-            if "ensures" not in first and "requires" not in first and first.count("\n") and not re.search(r"^\s*(requires|ensures)", text[m.start():end if end > 0 else None] if end > 0 else "", re.M):
-                open_at = m.start() + one.start()
-                head, clauses = text[m.start():open_at], ""
-            else:
-                if end < 0:
-                    continue
-                open_at = end + 1 + len(indent)
-                whole = text[m.start():open_at]
-                cut = re.search(r"\n\s*(requires|ensures)", whole)
-                head = whole[:cut.start()] if cut else whole
-                clauses = whole[cut.start():] if cut else ""
+            open_at = opens.end() - 1
+            whole = text[m.start():open_at]
+            cut = re.search(r"\n\s*(requires|ensures)", whole)
+            head = whole[:cut.start()] if cut else whole
+            clauses = whole[cut.start():] if cut else ""
             body = text[open_at:block(text, open_at)]
             yield Function(crate, path, text.count("\n", 0, m.start()) + 1, m.group(5), head, clauses, body)
 
@@ -103,7 +94,7 @@ def point_1(top):
             yield f"number {f.where()}"
         if re.search(r"\bkinds::[A-Z]|\bkind: u32\b|match kind \{|\b(s\.kind|kind) [=!]= \d", f.head + f.body):
             yield f"kind {f.where()}"
-        if re.search(r"\bcode: u32\b|\b(code|form) [!=]= codes::|\bform: u32\b", f.head + f.body):
+        if re.search(r"\bcode: u32\b(?!::)|\b(code|form) [!=]= codes::|\bform: u32\b", f.head + f.body):
             yield f"refusal {f.where()}"
 
 
@@ -128,11 +119,6 @@ def shape(text):
     for words, to in WORDS:
         text = re.sub(words, to, text)
     return re.sub(r"\s+", "", text)
-
-
-def names(shape_of, head, known={}):
-    """Parameters and locals by the order in which they come."""
-    return shape_of
 
 
 def point_2(top):
