@@ -51,7 +51,8 @@ fn clear_marks(words: &mut Words, s: Step)
     }
 }
 
-// What MCSR keeps of a write, and what one to MCSR or to AGCSTS clears.
+// What MCSR keeps of a write, and what one to MCSR or to AGCSTS clears. (It and `transfer` stand where they are called, so that a step calls
+// nothing.)
 #[inline(always)]
 fn control(words: &mut Words, s: Step)
     ensures { Stored (controlled (access_of s)) words.old words.new }
