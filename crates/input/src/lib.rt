@@ -117,15 +117,16 @@ pub fn set_line_passed(reading: Reading, piece: &[u8]) -> Passed
     ensures { PassedBy reading piece.now result }
 {
     let mut reading = reading;
-    let mut next = 0;
-    while next < piece.len() {
+    for (next, b) in piece.iter().enumerate() {
         let Reading::FirstLine(line) = reading else {
-            break;
+            return Passed { reading, next };
         };
-        reading = byte_heard(line, piece[next]);
-        next += 1;
+        reading = byte_heard(line, *b);
     }
-    Passed { reading, next }
+    Passed {
+        reading,
+        next: piece.len(),
+    }
 }
 
 // The set that the first line of a whole input chooses, ended by LF or by the end of the input.

@@ -1,4 +1,4 @@
-use Rattle.std.proofs.Common.{◌+◌, drop, sym, ap, ◌∙◌, arith, drop_of_length-le}
+use Rattle.std.proofs.Common.{◌+◌, drop, length, sym, ap, ◌∙◌, arith, drop_of_length-le}
 use Rattle.input.specs.declared.Reading.{Reading}
 use Rattle.input.specs.Input.{passing}
 use Rattle.input.proofs.Passing.{passing_none, passing_turn}
@@ -8,19 +8,19 @@ use Rattle.input.proofs.set_line_passed.Goals as goal
 pub loop-next-preserved : goal.loop-next-preserved
 loop-next-preserved c =
     let piece = c.args.piece.now in
-    let l = c.loop-next in (
-      omega arith,
-      l.invariant.1 ∙ ap (λ (q : Reading). passing q (drop l.next piece)) c.in-FirstLine.is ∙ passing_turn _ piece l.next c.loop-next-test.true
-          ∙ ap (λ (q : Reading). passing q (drop (l.next + 1) piece)) (sym c.byte_heard-reading.ensures),
-    )
+    let l = c.loop-next in
+    l.invariant ∙ ap (λ (q : Reading). passing q (drop l.next piece)) c.in-FirstLine.is ∙ passing_turn _ piece l.next c.loop-next-test.true
+    ∙ ap (λ (q : Reading). passing q (drop (l.next + 1) piece)) (sym c.byte_heard-reading.ensures)
 
 pub returns-in_default : goal.returns-in_default
 returns-in_default c =
     let l = c.loop-next in
-    record { within = l.invariant.0; passes = l.invariant.1 ∙ passing_stop l.reading (drop l.next c.args.piece.now) c.in_default.not-FirstLine }
+    record { within = l.auto.next-end; passes = l.invariant ∙ passing_stop l.reading (drop l.next c.args.piece.now) c.in_default.not-FirstLine }
 
-pub returns-after-loop-next : goal.returns-after-loop-next
-returns-after-loop-next c =
+pub returns : goal.returns
+returns c =
     let piece = c.args.piece.now in
     let l = c.loop-next in
-    record { within = l.invariant.0; passes = l.invariant.1 ∙ rw (drop_of_length-le piece {i = l.next} c.loop-next-test.false) (passing_none l.reading) }
+    let past = drop_of_length-le piece {i = l.next} c.loop-next-test.false in
+    let end = drop_of_length-le piece {i = length piece} (omega arith) in
+    record { within = omega arith; passes = rw end (l.invariant ∙ rw past (passing_none l.reading)) }
