@@ -8,7 +8,7 @@ use borrow.Author.Tests.{ne_eqb, lt-ltb}
 use Rattle.machine.specs.Sides.{Side, pci, addon, host, card, party_of}
 use Rattle.machine.specs.State.{State}
 use Rattle.machine.specs.Access.{kind_of, is_read_by, is_write_by, is_on, is_write_on, cycles, is_reset, is_unknown}
-use Rattle.machine.specs.BySide.{read_kind, write_kind, cycle_kind}
+use Rattle.machine.specs.BySide.{read_kind, write_kind}
 use Rattle.machine.specs.Step.{aborted_reply}
 
 pub record Named (k : ℕ) : Type 0 where
@@ -68,10 +68,6 @@ on addon k = (named k).on_addon
 pub write_on : (side : Side) (k : ℕ) → is_write_on side (kind_of k) ≡ eqb k (write_kind side)
 write_on pci k = (named k).write_on_pci
 write_on addon k = (named k).write_on_addon
-
-pub cycle_on : (side : Side) (k : ℕ) → cycles side (kind_of k) ≡ eqb k (cycle_kind side)
-cycle_on pci k = (named k).read_cycle
-cycle_on addon k = (named k).write_cycle
 
 -- what code 13 answers besides
 pub aborted_reply_lem : (st : State) (k : ℕ)

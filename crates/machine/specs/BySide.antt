@@ -1,4 +1,4 @@
--- What a side's numbers are, where no other rule says so: the kinds of its party's read and write and of the cycle on its lane, what four counts, and
+-- What a side's numbers are, where no other rule says so: the kinds of its party's read and write, what four counts, and
 -- which registers its bus has.
 use Rattle.std.specs.Prelude.{ℕ, Bool, true, false}
 use Rattle.machine.specs.Sides.{Side, pci, addon}
@@ -10,11 +10,6 @@ read_kind addon = 2
 abbrev pub write_kind : Side → ℕ
 write_kind pci = 1
 write_kind addon = 3
-
--- a read cycle, a write cycle
-abbrev pub cycle_kind : Side → ℕ
-cycle_kind pci = 5
-cycle_kind addon = 4
 
 -- of the FIFO from PCI free places count, of the one from the Add-On words (`Fifos.amount`)
 abbrev pub counts_room : Side → Bool

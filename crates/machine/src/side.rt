@@ -1,7 +1,7 @@
 // The numbers in which the rules of the two sides differ. What a rule says of a side is written once, over a type that stands for it.
 ghost use Rattle.std.specs.Prelude.{◌≡◌, ℕ, Bool, true, false, refl};
 ghost use Rattle.machine.specs.Sides as sides;
-ghost use Rattle.machine.specs.BySide.{read_kind, write_kind, cycle_kind, counts_room, has_transfers, owns_outgoing};
+ghost use Rattle.machine.specs.BySide.{read_kind, write_kind, counts_room, has_transfers, owns_outgoing};
 ghost use Rattle.machine.specs.Commands.{clear_bit};
 ghost use Rattle.machine.specs.Offsets.{address_at, count_at};
 ghost use Rattle.machine.specs.Mcsr.{enable_bit, four_bit};
@@ -11,12 +11,10 @@ ghost use Rattle.machine.specs.Interrupts.{interrupts_kept, flags, count_bit, ab
 pub trait Side {
     ghost side: { sides.Side };
 
-    // The kinds of its party's read and write, and of the cycle on its lane.
+    // The kinds of its party's read and write.
     const READ: u32;
 
     const WRITE: u32;
-
-    const CYCLE: u32;
 
     // The offsets of its lane's address and count.
     const ADDRESS: u32;
@@ -54,8 +52,6 @@ pub trait Side {
 
     ghost WRITE: { ℕ };
 
-    ghost CYCLE: { ℕ };
-
     ghost ADDRESS: { ℕ };
 
     ghost COUNT: { ℕ };
@@ -85,8 +81,6 @@ pub trait Side {
     ghost read_is: { READ ≡ read_kind side };
 
     ghost write_is: { WRITE ≡ write_kind side };
-
-    ghost cycle_is: { CYCLE ≡ cycle_kind side };
 
     ghost address_is: { ADDRESS ≡ address_at side };
 
@@ -128,8 +122,6 @@ impl Side for Pci {
 
     const WRITE: u32 = 1;
 
-    const CYCLE: u32 = 5;
-
     const ADDRESS: u32 = 0x2C;
 
     const COUNT: u32 = 0x30;
@@ -160,8 +152,6 @@ impl Side for Pci {
 
     ghost WRITE = { 1 };
 
-    ghost CYCLE = { 5 };
-
     ghost ADDRESS = { 0x2C };
 
     ghost COUNT = { 0x30 };
@@ -191,8 +181,6 @@ impl Side for Pci {
     ghost read_is = { refl };
 
     ghost write_is = { refl };
-
-    ghost cycle_is = { refl };
 
     ghost address_is = { refl };
 
@@ -228,8 +216,6 @@ impl Side for Addon {
 
     const WRITE: u32 = 3;
 
-    const CYCLE: u32 = 4;
-
     const ADDRESS: u32 = 0x24;
 
     const COUNT: u32 = 0x28;
@@ -260,8 +246,6 @@ impl Side for Addon {
 
     ghost WRITE = { 3 };
 
-    ghost CYCLE = { 4 };
-
     ghost ADDRESS = { 0x24 };
 
     ghost COUNT = { 0x28 };
@@ -291,8 +275,6 @@ impl Side for Addon {
     ghost read_is = { refl };
 
     ghost write_is = { refl };
-
-    ghost cycle_is = { refl };
 
     ghost address_is = { refl };
 
