@@ -7,7 +7,7 @@ ghost use Rattle.machine.specs.Commands.{commands, clears_marks, clears_fifo};
 
 use machine::{Addon, Pci, Side, Step, offsets};
 
-// The bit by which every mailbox byte is marked empty; a side's two have those of its FIFOs.
+// The bit by which every mailbox byte is marked empty; those that clear FIFOs are in `Side`.
 const MARKS: u32 = 27;
 
 // The enable of the byte that has them.

@@ -1,5 +1,5 @@
-// A step and its answer, as numbers, and the numbers of kinds, codes and offsets by name. The definitions in specs/ and the code that meets them
-// share the two structs; the named numbers stand in specs/ once more.
+// A step and its answer, as numbers; what refuses, the kinds of step, the offsets and the sides by name. The definitions in specs/ and the code
+// that meets them share the two structs, `Refusal` and `StepKind`; the named numbers stand in specs/ once more.
 #![tactic(auto)]
 
 pub mod codes;

@@ -1,6 +1,6 @@
 // The counting program: standard input, of any length, as the log program reads it, on a controller fresh from reset over 4,096 words
 // of zeros, and one line: the done write cycles and the done read cycles of its frames. What pieces come to is proved of `tally`, and
-// that they are fed in order, of `streams`; that they are fed at start 0 is read here and tested.
+// what the loop feeds, of `streams`; that the pieces are those of standard input, and fed at start 0, is read here and tested.
 #![tactic(auto)]
 
 ghost use Rattle.std.specs.Prelude.{◌≡◌, Option};

@@ -1,7 +1,7 @@
 // The HEX program: a controller fresh from reset over 4,096 words of zeros from address 0, a HEX text loaded before its frames, or
 // the memory exported after them. Standard input has at most 1,048,576 bytes: the set line; a mode line, `E`, or `L` or `B` and the
 // length of a HEX text in eight digits; after `L` and `B` that text; frames. After `B` the memory is exported in place of the log. Which
-// set a first line chooses, and what a text and a piece of frames do, is proved of `input`, `hex_load`, `hex_export` and `log`; that they
+// set a first line chooses, and what a text and a piece of frames do, is proved of `input`, `hex_load`, `hex_export` and `frame_log`; that they
 // come in this order is read here and tested.
 #![tactic(auto)]
 

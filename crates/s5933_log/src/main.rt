@@ -1,6 +1,6 @@
 // The log program: standard input, of any length, on a controller fresh from reset over 4,096 words of zeros, and its log to
-// standard output. What a piece is answered is proved of `input`, and that the pieces are fed in order, of `streams`; that they are fed
-// at start 0 is read here and tested.
+// standard output. What a piece is answered is proved of `input`, and what the loop feeds, of `streams`; that the pieces are those of
+// standard input, and fed at start 0, is read here and tested.
 #![tactic(auto)]
 
 ghost use Rattle.std.specs.Prelude.{◌≡◌, true};
