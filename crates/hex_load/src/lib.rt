@@ -155,12 +155,8 @@ fn head_of(text: &[u8]) -> Option<Head>
 fn record_of(text: &[u8], span: Span, upper: u16) -> Result<Head, Refusal>
     ensures { RecordOf span.start span.words upper text.now result }
 {
-    let Some(head) = head_of(text) else {
-        return Err(Refusal::NotAHexRecord);
-    };
-    let Some(rest) = digits_sum(&text[1..head.length() - 1]) else {
-        return Err(Refusal::NotAHexRecord);
-    };
+    let head = head_of(text).ok_or(Refusal::NotAHexRecord)?;
+    let rest = digits_sum(&text[1..head.length() - 1]).ok_or(Refusal::NotAHexRecord)?;
     if head.sum().wrapping_add(rest) != 0 {
         return Err(Refusal::WrongSum);
     }
