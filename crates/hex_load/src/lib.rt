@@ -46,8 +46,8 @@ fn digits_sum(digits: &[u8]) -> Option<u8>
     ensures { result ≡ sum_of (drop 8 digits.now) }
 {
     let mut sum = 0u8;
-    for i in 1..digits.len() / 8 {
-        sum = sum.wrapping_add(byte_sum(word_at(digits, 8 * i)?));
+    for word in digits[8..].as_chunks::<8>().0 {
+        sum = sum.wrapping_add(byte_sum(eight::number(*word)?));
     }
     let left = digits.len() % 8;
     if 0 < left {
