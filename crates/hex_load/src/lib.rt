@@ -209,10 +209,7 @@ fn check_text(text: &[u8], span: Span) -> Result<(), Refused>
     let mut upper = 0;
     while !rest.is_empty() {
         let at = text.len() - rest.len();
-        let head = match record_of(rest, span, upper) {
-            Ok(head) => head,
-            Err(refusal) => return Err(Refused { refusal, at }),
-        };
+        let head = record_of(rest, span, upper).map_err(|refusal| Refused { refusal, at })?;
         let behind = rest_of(rest, head);
         if head.kind == Kind::End {
             return if behind.is_empty() {
