@@ -46,8 +46,8 @@ fn digits_sum(digits: &[u8]) -> Option<u8>
     ensures { result ≡ sum_of (drop 8 digits.now) }
 {
     let mut sum = 0u8;
-    for i in 1..digits.len() / 8 {
-        sum = sum.wrapping_add(byte_sum(word_at(digits, 8 * i)?));
+    for word in digits[8..].as_chunks::<8>().0 {
+        sum = sum.wrapping_add(byte_sum(eight::number(*word)?));
     }
     let left = digits.len() % 8;
     if 0 < left {
@@ -209,10 +209,7 @@ fn check_text(text: &[u8], span: Span) -> Result<(), Refused>
     let mut upper = 0;
     while !rest.is_empty() {
         let at = text.len() - rest.len();
-        let head = match record_of(rest, span, upper) {
-            Ok(head) => head,
-            Err(refusal) => return Err(Refused { refusal, at }),
-        };
+        let head = record_of(rest, span, upper).map_err(|refusal| Refused { refusal, at })?;
         let behind = rest_of(rest, head);
         if head.kind == Kind::End {
             return if behind.is_empty() {
