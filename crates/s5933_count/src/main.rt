@@ -12,6 +12,9 @@ use std::process::ExitCode;
 use streams::{Program, Stop};
 use tally::Tally;
 
+// What a message about a write that failed begins with.
+const WRITE: &str = "s5933_count: write";
+
 // What has been counted, and the memory that the frames work on.
 #[derive(Drop)]
 struct Count {
@@ -28,7 +31,7 @@ impl Program for Count {
     fn feed<R: Print + Eprint>(&mut self, rt: &R, piece: &[u8]) -> Result<(), Stop> {
         self.tally = tally::feed(self.tally, &mut self.memory, 0, piece);
         match self.tally.reading {
-            Reading::Over => refuse(rt),
+            Reading::Over => streams::refuse_set(rt, WRITE),
             _ => Ok(()),
         }
     }
@@ -37,21 +40,13 @@ impl Program for Count {
     fn finish<R: Print + Eprint>(&mut self, rt: &R) -> Result<(), Stop> {
         match tally::finish(self.tally, &mut self.memory, 0) {
             Some(cycles) => write(rt, &tally::line(cycles)),
-            None => refuse(rt),
+            None => streams::refuse_set(rt, WRITE),
         }
     }
 }
 
 fn write<R: Print + Eprint>(rt: &R, line: &[u8]) -> Result<(), Stop> {
-    streams::written(rt, "s5933_count: write", rt.write_all(line))
-}
-
-// Writes the line that refuses an unknown set.
-fn refuse<R: Print + Eprint>(rt: &R) -> Result<(), Stop> {
-    let mut out = [0u8; 41];
-    let n = logline::put_unknown_set(&mut out);
-    write(rt, &out[..n])?;
-    Err(Stop::UnknownSet)
+    streams::written(rt, WRITE, rt.write_all(line))
 }
 
 fn main(rt: HostRuntime) -> ExitCode {

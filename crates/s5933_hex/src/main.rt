@@ -22,8 +22,11 @@ const PIECE: usize = 16384;
 
 // ---- writing
 
+// What a message about a write that failed begins with.
+const WRITE: &str = "s5933_hex: write";
+
 fn write<R: Print + Eprint>(rt: &R, out: &[u8]) -> Result<(), Stop> {
-    streams::written(rt, "s5933_hex: write", rt.write_all(out))
+    streams::written(rt, WRITE, rt.write_all(out))
 }
 
 // Says what an input should have been.
@@ -40,14 +43,6 @@ fn log_in(log: Result<usize, NoRoom>, out: &[u8]) -> Result<&[u8], Stop>
         Ok(n) => Ok(&out[..n]),
         Err(NoRoom) => Err(Stop::Failed),
     }
-}
-
-// Writes the line that refuses an unknown set.
-fn refuse_set<R: Print + Eprint>(rt: &R) -> Result<(), Stop> {
-    let mut out = [0u8; 41];
-    let n = logline::put_unknown_set(&mut out);
-    write(rt, &out[..n])?;
-    Err(Stop::UnknownSet)
 }
 
 // ---- a run
@@ -179,7 +174,7 @@ fn first_line(text: &[u8]) -> (&[u8], &[u8]) {
 // Answers a whole input.
 fn answer<R: Print + Eprint>(rt: &R, input: &[u8]) -> Result<(), Stop> {
     let Some(set) = input::set_of(input) else {
-        return refuse_set(rt);
+        return streams::refuse_set(rt, WRITE);
     };
     let mut run = Run {
         memory: [0; 4096],

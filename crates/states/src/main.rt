@@ -87,12 +87,9 @@ fn fill(memory: &mut [u32], base: u32) {
 
 // The place of the first word that is not base + i, and the word.
 fn changed(memory: &[u32], base: u32) -> Option<(u32, u32)> {
-    for (word, i) in memory.iter().zip(0..u32::MAX) {
-        if *word != base.wrapping_add(i) {
-            return Some((i, *word));
-        }
-    }
-    None
+    (0..u32::MAX)
+        .zip(memory.iter().copied())
+        .find(|(i, word)| *word != base.wrapping_add(*i))
 }
 
 // ---- what is written

@@ -2,7 +2,7 @@
 // ended.
 #![tactic(auto)]
 
-ghost use Rattle.std.specs.Prelude.{◌≡◌, ◌≢◌, ◌≤◌, ◌↔◌, List, ℕ, length, IfErr, IsOk, OnOk, IsNone, Ok, Err};
+ghost use Rattle.std.specs.Prelude.{◌≡◌, ◌≢◌, ◌≤◌, ◌↔◌, List, ℕ, length, IfErr, IsOk, IsErr, OnOk, IsNone, Ok, Err};
 ghost use Rattle.std.specs.IoError.{error_kind};
 ghost use Rattle.std.specs.Process.{exit_status};
 ghost use Rattle.streams.specs.Fed.{RunsOver};
@@ -109,6 +109,16 @@ pub fn written<R: Eprint>(rt: &R, what: &str, tried: io::Result<()>) -> Result<(
         ErrorKind::BrokenPipe => Stop::Unread,
         _ => fail(rt, what, e),
     })
+}
+
+// Writes the line that refuses an unknown label set.
+pub fn refuse_set<R: Print + Eprint>(rt: &R, what: &str) -> Result<(), Stop>
+    ensures { IsErr result }
+{
+    let mut out = [0u8; 41];
+    let n = logline::put_unknown_set(&mut out);
+    written(rt, what, rt.write_all(&out[..n]))?;
+    Err(Stop::UnknownSet)
 }
 
 // ---- the end
