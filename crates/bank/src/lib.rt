@@ -83,11 +83,23 @@ pub fn bank_in(words: &[u32]) -> Bank
     }
 }
 
+// Eight words, put in the place of eight. (As an array, and not by `copy_from_slice`: the copy of a slice keeps what it copies in memory, and
+// a controller that is passed by value is copied there by `memcpy`, which the archive for C does not ask for.)
+fn put_run(place: &mut [u32], run: [u32; 8])
+    requires { length place.old ≡ 8 }
+    ensures { place.new ≡ run }
+{
+    if let Some(place) = place.as_mut_array::<8>() {
+        *place = run;
+    }
+}
+
 // A lane, put among the words of a controller.
 fn put_lane<S: Places>(words: &mut Words, lane: Lane)
     ensures { words.new ≡ with_lane S.side lane words.old }
 {
-    words[S::FIFO_AT..S::FIFO_AT + 8].copy_from_slice(&lane.fifo.words);
+    let run = lane.fifo.words;
+    put_run(&mut words[S::FIFO_AT..S::FIFO_AT + 8], run);
     words[S::ADDRESS_AT] = lane.address;
     words[S::COUNT_AT] = lane.count.0;
     words[S::HEAD_AT] = lane.fifo.head;
@@ -100,7 +112,8 @@ pub fn words_of(c: Controller) -> Words
     ensures { (length result ≡ 38) × ((has_rights result ≡ true) × (state_of_words result ≡ state_of c)) }
 {
     let mut words = [0; 38];
-    words[..8].copy_from_slice(&c.mail);
+    let run = c.mail;
+    put_run(&mut words[..8], run);
     words[MARKS] = c.marks;
     words[INTCSR] = c.intcsr;
     words[MCSR] = c.mcsr;

@@ -108,8 +108,8 @@ pub fn start() -> Stream
 
 impl Progress {
     // The start of a piece, after what a stream carries.
-    fn begin(s: Stream) -> Progress
-        ensures { (result.at ≡ 0) × (begun_at result ≡ begun_of s) }
+    fn begin(s: &Stream) -> Progress
+        ensures { (result.at ≡ 0) × (begun_at result ≡ begun_of s.now) }
     {
         let bytes = s.bytes;
         Progress {
@@ -219,7 +219,7 @@ fn feed_bytes(
 {
     let mut words = bank::words_of(s.controller);
     let form = codes::code(refusal::form(bank::bank_in(&words), start, memory.len()));
-    let mut progress = Progress::begin(s);
+    let mut progress = Progress::begin(&s);
     let mut next = at;
     while let Some(said) = progress.next_line(piece) {
         let a = answer_words(&mut words, memory, start, form, said);
@@ -370,7 +370,7 @@ pub fn count(s: Stream, memory: &mut [u32], start: u32, piece: &[u8], before: Cy
 {
     let mut words = bank::words_of(s.controller);
     let form = codes::code(refusal::form(bank::bank_in(&words), start, memory.len()));
-    let mut progress = Progress::begin(s);
+    let mut progress = Progress::begin(&s);
     let mut cycles = before;
     while let Some(said) = progress.next_line(piece) {
         let a = answer_words(&mut words, memory, start, form, said);

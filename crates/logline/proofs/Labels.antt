@@ -1,8 +1,8 @@
 -- What is promised of the labels of every set.
 --     every-label    a test that every label of every set passes, computed once over all
 --     labels_there   which codes have one
-use Prim.Native.Nat.{ℕ, zero, suc, ◌≤◌, ◌<◌}
-use mathlib.Core.Path.{◌≡◌, refl}
+use Prim.Native.Nat.{ℕ, zero, suc, ◌+◌, ◌≤◌, ◌<◌}
+use mathlib.Core.Path.{◌≡◌, refl, ◌∙◌}
 use mathlib.Core.List.{List, [], ◌∷◌}
 use mathlib.Core.Bool.{Bool, true, false, cond, not, ◌&&◌, ◌||◌}
 use lib.Dec.{leb, ltb, eqb}
@@ -96,7 +96,27 @@ module _ (set code : ℕ) (s : is_set set ≡ true) where
 pub labels_there : LabelsThere
 labels_there set code s = there_by set code s (ltb code 25) refl
 
--- none of a number that is no set
+-- that a number is none of the n from a on
+abbrev NoneFrom : ℕ → ℕ → ℕ → Type 0
+NoneFrom a zero x = Unit
+NoneFrom a (suc n) x = NoneFrom a n x × (x ≡ a + n → ⊥)
+
+pub none_from : (a n x : ℕ) → a ≤ x → NoneFrom a n x → a + n ≤ x
+none_from a zero x h r = omega arith
+none_from a (suc n) x h r = let before = none_from a n x h r.0 in let other = r.1 in omega arith
+
+empty : (l : List ℕ) → ltb 0 (length l) ≡ false → l ≡ []
+empty [] e = refl
+empty (x ∷ xs) e = let h = ltb-false 0 (length (x ∷ xs)) e in absurd (omega arith)
+
+-- no label of a code from 16 on that is none of those that have one
+pub no_row : (set code : ℕ) → is_set set ≡ true → 16 ≤ code → NoneFrom 16 4 code × (code ≡ 24 → ⊥) → label_of set code ≡ []
+no_row set code s h r =
+    let over = none_from 16 4 code h r.0 in
+    let none : is_labelled code ≡ false = simp (le-ltb code 20 (omega arith), ne_eqb code 24 r.1) in
+    empty (label_of set code) (labels_there set code s ∙ none)
+
+-- and none of a number that is no set
 pub no_set : (set code : ℕ) → 2 ≤ set → label_of set code ≡ []
 unfolding label_sets label_in label_of
 no_set set code h = rw (get_or-eq_default label_sets [] h) refl

@@ -17,7 +17,7 @@ use std::{io, str};
 const STATUS: &str = "/dev/fd/3";
 
 // The exit status where nobody reads the output any more, as a shell has it of a program that SIGPIPE ended. Else it is 0.
-const UNREAD: u8 = 141;
+pub const UNREAD: u8 = 141;
 
 // What ends a run before the whole input is answered: a read or a write failed, or the input is not as it has to be, as a message has
 // said; the label set is unknown, or a HEX text is refused, as the output says; nobody reads the output any more.

@@ -26,7 +26,7 @@ returns c =
     let a = c.args.c in
     let p = a.from_pci in
     let d = a.from_addon in
-    let mailed = stand-mails (stand (replicate 38 0) refl) c.copy_from_slice.new.self c.copy_from_slice.ensures.len in
+    let mailed = stand-mails (stand (replicate 38 0) refl) c.put_run.new.place (search rules) in
     let numbered = stand_numbers ((24, a.marks) ∷ (25, a.intcsr) ∷ (26, a.mcsr) ∷ (27, a.aint) ∷ []) refl mailed in
     let from_pci = stand_numbers ((28, p.address) ∷ (29, p.count.0) ∷ (30, p.fifo.head) ∷ (31, p.fifo.fill.0) ∷ (36, one_if p.right) ∷ []) refl (stand-pcis numbered p.fifo.words (search rules)) in
     let from_addon = stand_numbers ((32, d.address) ∷ (33, d.count.0) ∷ (34, d.fifo.head) ∷ (35, d.fifo.fill.0) ∷ (37, one_if d.right) ∷ []) refl (stand-addons from_pci d.fifo.words (search rules)) in
@@ -34,6 +34,6 @@ returns c =
       c.put_lane-2.array_long,
       (
         ap has_rights put ∙ stand-rights from_addon ∙ rw (small p.right, small d.right),
-        ap state_of_words put ∙ stand-state from_addon ∙ rw (c.copy_from_slice.ensures.after, right_back p.right, right_back d.right),
+        ap state_of_words put ∙ stand-state from_addon ∙ rw (c.put_run.ensures, right_back p.right, right_back d.right),
       ),
     )

@@ -1,8 +1,8 @@
-use Rattle.std.proofs.Common.{refl}
+use Rattle.std.proofs.Common.{refl, rules}
 use Rattle.frame_log.specs.Results.{begun_of}
-use Rattle.frame_log.proofs.Carried.{bytes_length, clip}
+use Rattle.frame_log.proofs.Carried.{clip}
 use Rattle.frame_log.proofs.progress.Progress.begin.Goals as goal
 
 pub returns : goal.returns
 unfolding begun_of
-returns c = let s = c.args.s in (refl, rw c.min.ensures (clip s.bytes (bytes_length s c.well_formed.0) s.len))
+returns c = let s = c.args.s.now in (refl, rw c.min.ensures (clip s.bytes (search rules) s.len))
