@@ -1,16 +1,21 @@
 -- Laws of a window's words as bytes, and of bytes as digits.
 --     bytes_part               the bytes of a part of the words
 --     total_more, hexes_more   one word more
+--     total_four, hexes_four   four words
+--     four_sum                 the sum of their bytes, by a mask of every other one
 --     four_digits, last_two, last_four     bytes as the digits of one number
 --     parts, data_text         the parts of a record's text
-use Prim.Native.Nat.{ℕ, zero, suc, ◌+◌, ◌-◌, ◌*◌, ◌/◌, ◌%◌, ◌<◌}
+use Prim.Native.Nat.{ℕ, zero, suc, ◌+◌, ◌-◌, ◌*◌, ◌/◌, ◌%◌, ◌^◌, ◌<◌}
 use mathlib.Core.Path.{◌≡◌, refl, sym, ap, ◌∙◌}
 use mathlib.Core.List.{List, [], ◌∷◌, ◌++◌, append_assoc, append-nil}
 use native.Mathlib.Nat.{div-div-eq-div-mul}
 use native.Mathlib.Numerals.{add-one}
 use native.Mathlib.Omega.{arith}
 use lib.ListN.{length, get_or, take, drop}
+use lib.Dec.{lit<}
+use lib.Bits.{bit_and, and_block, and_mask}
 use lib.Seq.{take-suc}
+use Rattle.std.proofs.lemmas.List.{take_all}
 use Rattle.hex_digits.specs.Hex.{digit_of, digits}
 use Rattle.records.specs.Window.{window_bytes}
 use Rattle.records.specs.Record.{Record, total, front, check, all_bytes, hexes, text_of}
@@ -60,6 +65,63 @@ module _ (ws : List ℕ) (k : ℕ) (more : k < length ws) where
 
   pub hexes_more : hexes done ++ hexes next ≡ hexes (window_bytes (take (k + 1) ws))
   hexes_more = rw bytes_more (sym (hexes_append done next))
+
+-- four words
+module _ (ws : List ℕ) (four : length ws ≡ 4) where
+  abbrev word : ℕ → List ℕ
+  word k = window_bytes (get_or ws k 0 ∷ [])
+
+  abbrev pub all_four : List ℕ
+  all_four = get_or ws 0 0 ∷ get_or ws 1 0 ∷ get_or ws 2 0 ∷ get_or ws 3 0 ∷ []
+
+  four_words : window_bytes ws ≡ word 0 ++ word 1 ++ word 2 ++ word 3
+  unfolding window_bytes
+  four_words =
+      let e4 : take 4 ws ≡ ws = take_all 4 ws (omega (arith, four)) in
+      let e3 : window_bytes (take 4 ws) ≡ window_bytes (take 3 ws) ++ word 3 = bytes_more ws 3 (omega (arith, four)) in
+      let e2 : window_bytes (take 3 ws) ≡ window_bytes (take 2 ws) ++ word 2 = bytes_more ws 2 (omega (arith, four)) in
+      let e1 : window_bytes (take 2 ws) ≡ window_bytes (take 1 ws) ++ word 1 = bytes_more ws 1 (omega (arith, four)) in
+      let e0 : window_bytes (take 1 ws) ≡ word 0 = bytes_more ws 0 (omega (arith, four)) in
+      rw (e2, e1, e0, e4) at e3
+
+  pub total_four : total (window_bytes ws) ≡ total (window_bytes all_four)
+  unfolding window_bytes
+  total_four = rw four_words refl
+
+  pub hexes_four : hexes (word 0) ++ hexes (word 1) ++ hexes (word 2) ++ hexes (word 3) ≡ hexes (window_bytes ws)
+  hexes_four = rw (four_words, hexes_append, hexes_append, hexes_append)
+
+-- words' sum and that of every other byte of them, by the sums of their bytes
+record Sums (all even s0 s1 s2 s3 : ℕ) : Type 0 where
+  of_all : all ≡ s0 + 256 * s1 + 65536 * s2 + 16777216 * s3
+  of_even : even ≡ s0 + 65536 * s2
+
+word_sums : (w : ℕ) → w < 2 ^ 32 → Sums w (bit_and w 0x00FF_00FF) (w % 256) (w / 256 % 256) (w / 65536 % 256) (w / 16777216 % 256)
+word_sums w h =
+    let e : w ≡ w / 65536 * 2 ^ 16 + w % 65536 = omega arith in
+    let low : w % 65536 % 256 + w / 65536 % 256 * 65536 ≡ w % 256 + 65536 * (w / 65536 % 256) = omega arith in
+    let taken : bit_and w 0x00FF_00FF ≡ w % 256 + 65536 * (w / 65536 % 256) = ap (λ (x : ℕ). bit_and x 0x00FF_00FF) e ∙ and_block 16 (w / 65536) 255 (w % 65536) 255 (omega arith) (lit< tt) ∙ rw (and_mask (w / 65536) 8, and_mask (w % 65536) 8) (omega (arith, low)) in
+    record { of_all = omega (arith, h); of_even = taken }
+
+add_sums : {v e s0 s1 s2 s3 w f t0 t1 t2 t3 : ℕ} → Sums v e s0 s1 s2 s3 → Sums w f t0 t1 t2 t3 → Sums (v + w) (e + f) (s0 + t0) (s1 + t1) (s2 + t2) (s3 + t3)
+add_sums p q = record { of_all = omega (arith, p.of_all, q.of_all); of_even = omega (arith, p.of_even, q.of_even) }
+
+fold_sums : (all even s0 s1 s2 s3 : ℕ) → s0 + s1 < 65536 → Sums all even s0 s1 s2 s3
+    → (even + (all - even) / 256 + (even + (all - even) / 256) / 65536) % 256 ≡ (s0 + s1 + s2 + s3) % 256
+fold_sums all even s0 s1 s2 s3 low p =
+    let odd : (all - even) / 256 ≡ s1 + 65536 * s3 = omega (arith, p.of_all, p.of_even) in
+    let sums : even + (all - even) / 256 ≡ s0 + s1 + 65536 * (s2 + s3) = omega (arith, p.of_even, odd) in
+    let high : (even + (all - even) / 256) / 65536 ≡ s2 + s3 = omega (arith, low, sums) in
+    omega (arith, sums, high)
+
+pub four_sum : (a b c d : ℕ) → a < 2 ^ 32 → b < 2 ^ 32 → c < 2 ^ 32 → d < 2 ^ 32
+    → let all = a + b + c + d in
+    let even = bit_and a 0x00FF_00FF + bit_and b 0x00FF_00FF + bit_and c 0x00FF_00FF + bit_and d 0x00FF_00FF in
+    (even + (all - even) / 256 + (even + (all - even) / 256) / 65536) % 256 ≡ total (window_bytes (a ∷ b ∷ c ∷ d ∷ [])) % 256
+unfolding window_bytes total
+four_sum a b c d h k l m =
+    fold_sums _ _ _ _ _ _ (omega arith) (add_sums (add_sums (add_sums (word_sums a h) (word_sums b k)) (word_sums c l)) (word_sums d m))
+    ∙ ap (λ (x : ℕ). x % 256) (omega arith)
 
 -- ---- digits
 
